@@ -1,0 +1,4 @@
+pub mod Encoding
+pub mod Laws
+pub mod Leaves
+pub mod Table
