@@ -51,3 +51,7 @@ number_of (byte ∷ bytes) = byte + 256 * number_of bytes
 abbrev pub bytes_of : ℕ → ℕ → List ℕ
 bytes_of zero number = []
 bytes_of (suc n) number = number % 256 ∷ bytes_of n (number / 256)
+
+-- the spaces of processes, by pid, with one of them changed
+abbrev pub with_space : (ℕ → Space) → ℕ → Space → ℕ → Space
+with_space spaces pid space q = if q == pid then space else spaces q
