@@ -2,3 +2,4 @@ pub mod Encoding
 pub mod Laws
 pub mod Leaves
 pub mod Table
+pub mod Text

@@ -1,9 +1,9 @@
-//! The instructions of RV64IM: which instruction a 32-bit word is.
+//! The instructions of RV64IM: which instruction a 32-bit word is, and how it is written.
 //!
 //! The model is the instruction table in `specs/Table.antt`, one line an instruction, in the words of the
-//! RISC-V manual. The promise is that `decode` is that table, for every word: the row's operation,
-//! registers and immediate where a row has the word, and `None` exactly where none has it. It is stated
-//! at `decode`; the table's own laws are stated at the functions below it.
+//! RISC-V manual. The promise is that `decode` is that table for every word: the row's operation, registers
+//! and immediate where a row has the word, and `None` exactly where none has it. It is stated at `decode`;
+//! laws of the table are stated at the functions below it, and the written text at `Display` in `text`.
 #![tactic(auto)]
 
 ghost use Rattle.std.specs.Prelude.{◌≡◌, IfSome};
@@ -14,6 +14,7 @@ mod encoding;
 mod opcodes;
 #[cfg(test)]
 mod tests;
+mod text;
 
 use encoding::{Format, bits, made};
 

@@ -1,0 +1,7 @@
+pub mod Spaces
+pub mod Steps
+pub mod Running
+pub mod Placed
+pub mod Flat
+pub mod Growth
+pub mod Rows

@@ -1,0 +1,4 @@
+pub mod Word
+pub mod Arith
+pub mod Access
+pub mod Meaning
