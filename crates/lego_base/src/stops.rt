@@ -46,4 +46,6 @@ pub enum CallStop {
     OutFault,
     /// The host's standard error failed.
     ErrFault,
+    /// The program made a call that isn't built yet.
+    Unbuilt,
 }
