@@ -1,0 +1,13 @@
+use Rattle.std.proofs.Common.{◌≡◌, ◌≤◌, vec_len, vec_capacity, drop}
+use Rattle.area_list.specs.declared.TheConstants.{MOST_RUNS}
+use Rattle.area_list.specs.Runs.{IsCanonical, above, joined}
+use Rattle.area_list.proofs.build.append_above.Given as goal
+
+-- the runs that are left, put behind what there is, give what all of them give
+abbrev pub invariant-loop-run : goal.invariant-loop-run
+invariant-loop-run l = record {
+  canonical : IsCanonical (drop l.run-index l.runs);
+  rest : joined l.into.items (above l.page (drop l.run-index l.runs)) ≡ joined l.fn.into.items (above l.page l.runs);
+  few : vec_len l.into ≤ MOST_RUNS;
+  room : vec_capacity l.into ≡ vec_capacity l.fn.into;
+}

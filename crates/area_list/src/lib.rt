@@ -1,0 +1,28 @@
+//! The areas of an address space: its maximal runs of mapped pages with equal permissions, at most 256
+//! of them, as `mmap(2)`, `munmap(2)`, `mprotect(2)` and `brk(2)` set and clear them.
+//!
+//! Contracts see [`Areas`] as the list of its runs, which is canonical: `IsCanonical` of `specs/Runs`.
+//! What the list says of a page is `perms_of` of lego_base. Setting and clearing a range are `put_runs`
+//! and `cut_runs` there; the lowest free place is `lowest_gap` of `specs/Gap`. Only `Areas::new` takes
+//! memory. That these definitions say what their names say, page by page, is promised in `laws`.
+#![tactic(auto)]
+
+mod areas; // the areas of an address space
+mod build; // runs put behind one another
+mod laws; // what the definitions say of single pages
+mod search; // what runs say of pages
+#[cfg(test)]
+mod tests;
+
+pub use areas::{Areas, TooMany};
+pub use laws::{
+    canonical_runs_are_unique, covered_is_each_page, cut_clears_a_range, lowest_gap_is_lowest,
+    one_need_is_allowed, put_sets_a_range,
+};
+
+/// How many runs an address space has at most.
+pub const MOST_RUNS: usize = 256;
+
+/// The page behind the last page of an address space: the end of the addresses, 2^38, in pages of 4096
+/// bytes.
+pub const PAGES_END: u64 = 1 << 26;
