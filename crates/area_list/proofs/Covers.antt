@@ -1,5 +1,5 @@
 -- Ranges whose pages all have permissions, run by run.
-use Rattle.std.proofs.Common.{◌≡◌, ◌==◌, ℕ, suc, zero, ◌+◌, ◌-◌, ◌<◌, ◌≤◌, Bool, true, false, ◌&&◌, List, [], ◌∷◌, length, get_or, drop, Option, Some, None, ◌⊎◌, ◌↔◌, ◌*◌, ◌/◌, ◌%◌, ◌^◌, inl, inr, refl, sym, ◌∙◌, ap, arith}
+use Rattle.std.proofs.Common.{◌≡◌, ◌==◌, ℕ, suc, zero, ◌+◌, ◌-◌, ◌<◌, ◌≤◌, true, false, ◌&&◌, List, [], ◌∷◌, length, get_or, drop, Some, None, ◌*◌, ◌/◌, ◌%◌, ◌^◌, inl, inr, refl, sym, ◌∙◌, ap, arith}
 use Rattle.std.proofs.lemmas.Bool.{ne_eqb, eq-eqb, and_parts, and_from, cases_eq}
 use Rattle.std.specs.Int.Bits.{bit_and, and_high}
 use Rattle.lego_base.specs.declared.perms.Perms.{Perms}

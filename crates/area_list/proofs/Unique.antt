@@ -1,14 +1,14 @@
 -- Canonical runs are determined by what they say of each page; what setting and clearing a range makes of them.
-use Rattle.std.proofs.Common.{◌≡◌, ◌==◌, ℕ, ◌+◌, ◌-◌, ◌<◌, ◌≤◌, Bool, true, false, ◌&&◌, List, [], ◌∷◌, ◌++◌, Option, Some, None, ◌⊎◌, inl, inr, refl, sym, ◌∙◌, ap, subst, arith, append_assoc}
+use Rattle.std.proofs.Common.{◌≡◌, ℕ, ◌+◌, ◌<◌, ◌≤◌, List, [], ◌∷◌, ◌++◌, Some, None, inl, inr, refl, sym, ◌∙◌, ap, arith, append_assoc}
 use Rattle.std.proofs.lemmas.Bool.{cond-true, cond-false, cases_lt, le-leb, lt-leb, lt-ltb, le-ltb, and_from, and_left, and_right, eq-eqb, both_ways}
 use Rattle.std.proofs.lemmas.Option.{none-some, same_Some}
 use Rattle.lego_base.specs.declared.perms.Perms.{Perms}
 use Rattle.lego_base.specs.declared.records.Area.{Area}
 use Rattle.lego_base.specs.Space.{perms_of}
 use Rattle.area_list.specs.declared.TheConstants.{PAGES_END}
-use Rattle.area_list.specs.Runs.{end_of, goes_on, IsCanonical, between, below, above, joined, put_runs, cut_runs, in_range, PutSets, CutClears, CanonicalIsUnique}
+use Rattle.area_list.specs.Runs.{end_of, IsCanonical, between, below, above, joined, put_runs, cut_runs, in_range, PutSets, CutClears}
 use Rattle.area_list.proofs.Pages.{perms-hit, perms-miss, either, either-none, perms-append, perms-joined, between-in, between-out, below-in, below-out, above-in, above-out}
-use Rattle.area_list.proofs.Canonical.{IsWithin, within-le, within-lower, within-append, within-between, within-below, within-above, canonical-tail, canonical-within, canonical-joined}
+use Rattle.area_list.proofs.Canonical.{IsWithin, within-append, within-between, within-below, within-above, canonical-tail, canonical-within, canonical-joined}
 
 -- below rising runs nothing is mapped
 pub perms-before : (low high : ℕ) (runs : List Area) (page : ℕ) → IsWithin low high runs → page < low → perms_of runs page ≡ None

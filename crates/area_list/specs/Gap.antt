@@ -1,5 +1,5 @@
 -- The lowest place for a mapping.
-use Rattle.std.specs.Prelude.{◌≡◌, ◌==◌, ℕ, ◌+◌, ◌<◌, ◌≤◌, nat_le, max, Bool, if◌then◌else◌, List, [], ◌∷◌, Option, Some, None, MatchOption}
+use Rattle.std.specs.Prelude.{◌≡◌, ◌==◌, ℕ, ◌+◌, ◌<◌, ◌≤◌, nat_le, max, if◌then◌else◌, List, [], ◌∷◌, Option, Some, None, MatchOption}
 use Rattle.lego_base.specs.declared.records.Area.{Area}
 use Rattle.lego_base.specs.Space.{perms_of}
 use Rattle.area_list.specs.declared.TheConstants.{PAGES_END}

@@ -47,7 +47,7 @@ pub fn build_cut(runs: &[Area], first: u64, pages: u64, into: &mut Vec<Area>) ->
     Ok(())
 }
 
-// Puts what lies below a page behind the runs in `into`. Where that are more than `MOST_RUNS` runs,
+// Puts what lies below a page behind the runs in `into`. Where those are more than `MOST_RUNS` runs,
 // `into` has some of them.
 pub fn append_below(runs: &[Area], page: u64, into: &mut Vec<Area>) -> Result<(), TooMany>
     requires canonical { IsCanonical runs.now }
@@ -65,7 +65,7 @@ pub fn append_below(runs: &[Area], page: u64, into: &mut Vec<Area>) -> Result<()
     Ok(())
 }
 
-// Puts what lies from a page on behind the runs in `into`. Where that are more than `MOST_RUNS` runs,
+// Puts what lies from a page on behind the runs in `into`. Where those are more than `MOST_RUNS` runs,
 // `into` has some of them.
 pub fn append_above(runs: &[Area], page: u64, into: &mut Vec<Area>) -> Result<(), TooMany>
     requires canonical { IsCanonical runs.now }

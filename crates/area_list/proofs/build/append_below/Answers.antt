@@ -1,6 +1,6 @@
-use Rattle.std.proofs.Common.{◌≡◌, ◌+◌, ◌<◌, ◌≤◌, min, max, ◌++◌, [], ◌∷◌, length, drop, get_or, sym, ◌∙◌, ap, arith, rules}
+use Rattle.std.proofs.Common.{◌≡◌, ◌+◌, min, ◌∷◌, drop, get_or, ◌∙◌, arith, rules}
 use Rattle.area_list.specs.declared.TheConstants.{MOST_RUNS}
-use Rattle.area_list.specs.Runs.{end_of, IsCanonical, between, below, joined}
+use Rattle.area_list.specs.Runs.{end_of, IsCanonical, below}
 use Rattle.area_list.proofs.Lengths.{no_area, below_more, still_more, first_left, at_err}
 use Rattle.area_list.proofs.build.append_below.Goals as goal
 

@@ -1,6 +1,5 @@
-use Rattle.std.proofs.Common.{◌≡◌, ◌+◌, ◌<◌, ◌≤◌, ◌++◌, [], ◌∷◌, List, length, refl, sym, ◌∙◌, ap, arith}
-use Rattle.lego_base.specs.declared.records.Area.{Area}
-use Rattle.area_list.specs.Runs.{below, above, joined, cut_runs}
+use Rattle.std.proofs.Common.{◌+◌, [], refl}
+use Rattle.area_list.specs.Runs.{below, above, cut_runs}
 use Rattle.area_list.proofs.Lengths.{still_more, at_err, in_two, over_two}
 use Rattle.area_list.proofs.build.build_cut.Goals as goal
 use Rattle.area_list.specs.declared.TheConstants.{MOST_RUNS}

@@ -1,7 +1,6 @@
-use Rattle.std.proofs.Common.{◌≡◌, ◌+◌, ◌<◌, ◌≤◌, ◌++◌, [], ◌∷◌, List, length, refl, sym, ◌∙◌, ap, arith}
-use Rattle.lego_base.specs.declared.records.Area.{Area}
-use Rattle.area_list.specs.Runs.{between, below, above, joined, put_runs}
-use Rattle.area_list.proofs.Lengths.{joined-append, still_more, at_err, in_two, in_three, over_two}
+use Rattle.std.proofs.Common.{◌+◌, ◌++◌, [], refl, sym}
+use Rattle.area_list.specs.Runs.{between, below, above, put_runs}
+use Rattle.area_list.proofs.Lengths.{joined-append, still_more, at_err, in_three, over_two}
 use Rattle.area_list.proofs.build.build_put.Goals as goal
 use Rattle.area_list.specs.declared.TheConstants.{MOST_RUNS}
 

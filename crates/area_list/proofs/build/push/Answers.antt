@@ -1,6 +1,5 @@
-use Rattle.std.proofs.Common.{◌≡◌, ◌+◌, ◌<◌, ◌++◌, [], ◌∷◌, length, sym, ◌∙◌, ap, arith, length-append}
-use Rattle.area_list.specs.declared.TheConstants.{MOST_RUNS}
-use Rattle.area_list.specs.Runs.{goes_on, extended}
+use Rattle.std.proofs.Common.{◌≡◌, ◌++◌, [], ◌∷◌, sym, ◌∙◌, ap, arith, length-append}
+use Rattle.area_list.specs.Runs.{extended}
 use Rattle.area_list.proofs.Lengths.{push-longer, push-apart}
 use Rattle.area_list.proofs.build.push.Goals as goal
 use Rattle.area_list.proofs.build.push.Goals.{After-len}

@@ -1,6 +1,6 @@
-use Rattle.std.proofs.Common.{◌≡◌, ◌==◌, ℕ, ◌+◌, ◌-◌, ◌<◌, ◌≤◌, true, false, ◌&&◌, ◌∷◌, Some, bit_and, length, get_or, drop, sym, ◌∙◌, ap, arith, rules}
+use Rattle.std.proofs.Common.{◌≡◌, ◌+◌, true, false, ◌∷◌, Some, get_or, drop, sym, ◌∙◌, ap, arith, rules}
 use Rattle.std.proofs.lemmas.List.{drop_all}
-use Rattle.area_list.specs.Runs.{end_of, IsCanonical}
+use Rattle.area_list.specs.Runs.{IsCanonical}
 use Rattle.area_list.specs.Cover.{has_all, covered}
 use Rattle.area_list.proofs.Lengths.{no_area, first_left}
 use Rattle.area_list.proofs.Covers.{covered_left, covered-none, covered-nothing, covered-behind, covered-below, covered-lacking, covered-whole, covered-rest}

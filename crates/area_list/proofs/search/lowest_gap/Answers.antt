@@ -1,9 +1,6 @@
-use Rattle.std.proofs.Common.{◌≡◌, ℕ, ◌+◌, ◌-◌, ◌<◌, ◌≤◌, ◌∷◌, max, length, get_or, drop, sym, ◌∙◌, arith, rules}
+use Rattle.std.proofs.Common.{sym, ◌∙◌, arith}
 use Rattle.std.proofs.lemmas.Bool.{cond-true, cond-false, le-leb, lt-leb}
-use Rattle.area_list.specs.declared.TheConstants.{PAGES_END}
-use Rattle.area_list.specs.Runs.{end_of, IsCanonical}
-use Rattle.area_list.specs.Gap.{gap_between, lowest_gap}
-use Rattle.area_list.proofs.Lengths.{no_area, first_left}
+use Rattle.area_list.proofs.Lengths.{no_area}
 use Rattle.area_list.proofs.Gaps.{gap-none, gap-empty, gap-before, gap-behind}
 use Rattle.area_list.proofs.search.lowest_gap.Goals as goal
 use Rattle.area_list.proofs.search.lowest_gap.Goals.{then-first-gt-PAGES_END-via-then-first-gt-PAGES_END, then-first-gt-PAGES_END-via-else-first-gt-PAGES_END+then-pages-first}

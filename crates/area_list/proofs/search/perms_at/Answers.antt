@@ -1,4 +1,4 @@
-use Rattle.std.proofs.Common.{◌≡◌, ℕ, suc, ◌+◌, ◌-◌, ◌/◌, ◌<◌, ◌≤◌, length, get_or, drop, sym, ◌∙◌, ap, arith, add-one, rules}
+use Rattle.std.proofs.Common.{◌≡◌, ℕ, suc, ◌+◌, ◌-◌, ◌/◌, ◌<◌, length, drop, sym, ◌∙◌, ap, arith}
 use Rattle.lego_base.specs.Space.{perms_of}
 use Rattle.area_list.proofs.Lengths.{no_area}
 use Rattle.area_list.proofs.Places.{at-run, past-run, between-runs}

@@ -1,7 +1,7 @@
-use Rattle.std.proofs.Common.{◌≡◌, ℕ, ◌≤◌, List, Option, Some, None, MatchOption, sym, ◌∙◌, ap, subst}
+use Rattle.std.proofs.Common.{◌≡◌, ℕ, List, Option, Some, None, sym, ◌∙◌, ap, subst}
 use Rattle.lego_base.specs.declared.records.Area.{Area}
 use Rattle.area_list.specs.Runs.{IsCanonical}
-use Rattle.area_list.specs.Gap.{lowest_gap, IsGap, IsLowestGap}
+use Rattle.area_list.specs.Gap.{lowest_gap}
 use Rattle.area_list.proofs.Gaps.{Found, gap-lowest}
 use Rattle.area_list.proofs.areas.Areas.gap_from.Goals as goal
 use Rattle.area_list.proofs.areas.Areas.gap_from.Goals.{After-lowest_gap}
