@@ -26,3 +26,6 @@ pub use shape::{CrashAt, Shape};
 pub use sizes::{LEAST_ROOM, LINE_BYTES, PAGE_BYTES, REGION_BYTES, USER_END};
 pub use stops::{CallStop, Halt, MemStop, NoMemory};
 pub use text::Text;
+
+#[cfg(test)]
+mod tests;
