@@ -1,5 +1,5 @@
 -- The bit operations of two words are those of their digits.
-use Rattle.std.proofs.Common.{◌≡◌, ℕ, zero, suc, ◌+◌, ◌-◌, ◌*◌, ◌/◌, ◌%◌, ◌^◌, ◌<◌, ◌≤◌, min, max, refl, sym, ◌∙◌, ap, subst, arith, bit_and, bit_or, bit_xor}
+use Rattle.std.proofs.Common.{◌≡◌, ℕ, zero, suc, ◌+◌, ◌-◌, ◌*◌, ◌/◌, ◌%◌, ◌^◌, ◌<◌, ◌≤◌, min, max, sym, ◌∙◌, ap, subst, arith, bit_and, bit_or, bit_xor}
 use Rattle.std.proofs.lemmas.Nat.{mod-pow-add, xor_lt, or_lt, and_le_l}
 use Rattle.std.proofs.lemmas.Nat.Bits.{bit_at_xor, bit_at_or, bit_at_and, bit_at-lt}
 use Rattle.rv64_step.specs.Arith.{digit, number_by, xor, or, and}

@@ -1,2 +1,3 @@
+mod Corners
 pub mod Digits
 pub mod Products

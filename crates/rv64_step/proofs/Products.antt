@@ -1,5 +1,5 @@
 -- The product of two signed words in 128 bits.
-use Rattle.std.proofs.Common.{◌≡◌, ℕ, ℤ, pos, negsuc, ◌*ℤ◌, ◌-ℤ◌, ◌^◌, ◌≤◌, ◌<◌, refl, FitsSigned, to_z, of_z, unsigned_abs, w64, arith, lit<}
+use Rattle.std.proofs.Common.{◌≡◌, ℕ, ℤ, pos, negsuc, ◌*ℤ◌, ◌^◌, ◌≤◌, ◌<◌, FitsSigned, to_z, of_z, unsigned_abs, w64, arith, lit<}
 use Rattle.std.proofs.lemmas.Int.{fits_signed_mul, to_z-of_z, ints}
 use Rattle.std.specs.Int.{int_rem_euclid, w128}
 use Rattle.rv64_step.specs.Word.{signed}

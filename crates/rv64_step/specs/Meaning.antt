@@ -1,7 +1,7 @@
 -- What each instruction asks for: an end with the registers after it, or one access to memory, with the
 -- registers by what it gives. One line an instruction, to be laid beside the chapters "RV32I", "RV64I"
 -- and "M" of the RISC-V manual, volume I.
-use Rattle.std.specs.Prelude.{◌≡◌, ℕ, ℤ, ◌+◌, ◌-◌, ◌*◌, ◌/◌, ◌%◌, ◌^◌, ◌==◌, ◌||◌, Bool, true, false, if◌then◌else◌, nat_lt, nat_le, not, pos, slice_index, slice_set, int_lt, int_le, Option, Some, None, Result, Ok, Err}
+use Rattle.std.specs.Prelude.{◌≡◌, ℕ, ℤ, ◌+◌, ◌*◌, ◌/◌, ◌%◌, ◌^◌, ◌==◌, Bool, if◌then◌else◌, nat_lt, nat_le, not, slice_index, slice_set, int_lt, int_le, Option, Some, None, Result, Ok, Err}
 use Rattle.std.specs.Int.{cast_unsigned, w64}
 use Rattle.lego_base.specs.declared.stops.Halt.{Halt}
 use Rattle.lego_base.specs.declared.stops.MemStop.{MemStop}
@@ -15,7 +15,6 @@ use Rattle.rv64_step.specs.declared.cpu.StepEnd.{StepEnd}
 use Rattle.rv64_step.specs.declared.cpu.StepEnd.TheVariants.{Next, Call, Dead}
 use Rattle.rv64_step.specs.Word.{signed, sext, plus}
 use Rattle.rv64_step.specs.Arith.{add, sub, sll, srl, sra, slt, sltu, xor, or, and, mul, mulh, mulhsu, mulhu, div, divu, rem, remu, addw, subw, sllw, srlw, sraw, mulw, divw, divuw, remw, remuw}
-use Rattle.rv64_step.specs.Access.{Fetched, Loaded, Stored}
 
 -- a register: register 0 reads 0
 abbrev pub reg : Cpu → ℕ → ℕ

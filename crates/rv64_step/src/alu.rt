@@ -38,7 +38,11 @@ pub fn sra(a: u64, b: u64) -> u64
 pub fn slt(a: u64, b: u64) -> u64
     ensures { result ≡ slt a b }
 {
-    if a.cast_signed() < b.cast_signed() { 1 } else { 0 }
+    if a.cast_signed() < b.cast_signed() {
+        1
+    } else {
+        0
+    }
 }
 
 #[inline(always)]

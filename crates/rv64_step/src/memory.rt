@@ -19,7 +19,9 @@ pub trait GuestMem {
 
     /// For a call and its answer, which memory may stand after which.
     ghost fetches: { Self → ℕ → ℕ → Result ℕ MemStop → Self → Type 0 };
+
     ghost loads: { Self → ℕ → ℕ → ℕ → Result ℕ MemStop → Self → Type 0 };
+
     ghost stores: { Self → ℕ → ℕ → ℕ → ℕ → Result (Unit {0}) MemStop → Self → Type 0 };
 
     /// The number in `len` bytes (1, 2, 4 or 8) at an address.

@@ -1,5 +1,5 @@
 -- The product of 128 bits is that of the signed words.
-use Rattle.std.proofs.Common.{◌≡◌, ℕ, ℤ, FitsSigned, w64, to_z, ap, ◌*ℤ◌, ◌∙◌, ◌/◌, ◌^◌, rules}
+use Rattle.std.proofs.Common.{◌≡◌, ℕ, FitsSigned, w64, ap, ◌*ℤ◌, ◌∙◌, ◌/◌, ◌^◌, rules}
 use Rattle.rv64_step.specs.Word.{signed}
 use Rattle.rv64_step.specs.Arith.{upper}
 use Rattle.rv64_step.proofs.Products.{product_is, signed_is}
