@@ -1,8 +1,8 @@
 -- Output and exits only grow, and after the end nothing changes.
-use Rattle.std.proofs.Common.{◌≡◌, ℕ, zero, suc, ◌+◌, ◌%◌, ◌-◌, Bool, true, false, cond, refl, sym, ◌∙◌, ap, subst, List, [], ◌∷◌, ◌++◌, length, Option, Some, None, append_assoc, append-nil, add-zero, add-suc, get_or, arith}
-use Rattle.kernel_model.specs.State.{Kernel, Process, State, Live, Zombie, process, is_live}
-use Rattle.kernel_model.specs.Effects.{Effect, Reads, Writes, Refused, Goes, Maps, Fills, Starts, Puts, Dies, Stream, Out, Err, apply, applies}
-use Rattle.kernel_model.specs.Turns.{Plan, turn, flat, ready, chosen, whose, turn_of, is_over}
+use Rattle.std.proofs.Common.{◌≡◌, ℕ, zero, suc, ◌+◌, Bool, true, false, cond, refl, sym, ◌∙◌, ap, subst, List, [], ◌∷◌, ◌++◌, append_assoc, append-nil, add-zero, add-suc}
+use Rattle.kernel_model.specs.State.{Kernel, Process, State, Live, Zombie, is_live}
+use Rattle.kernel_model.specs.Effects.{Effect, Reads, Writes, Refused, Goes, Maps, Fills, Starts, Puts, Dies, Out, Err, apply, applies}
+use Rattle.kernel_model.specs.Turns.{Plan, turn, flat, ready, whose, turn_of, is_over}
 use Rattle.kernel_model.specs.Laws.{Grows}
 
 same : (k : Kernel) → Grows k k
@@ -13,9 +13,10 @@ joined a b c more rest e f = f ∙ ap (λ (l : List _). l ++ rest) e ∙ append_
 
 then_grows : (k l m : Kernel) → Grows k l → Grows l m → Grows k m
 then_grows k l m g h = record {
-    out = (g.out.0 ++ h.out.0, joined k.out l.out m.out g.out.0 h.out.0 g.out.1 h.out.1);
-    err = (g.err.0 ++ h.err.0, joined k.err l.err m.err g.err.0 h.err.0 g.err.1 h.err.1);
-    exits = (g.exits.0 ++ h.exits.0, joined k.exits l.exits m.exits g.exits.0 h.exits.0 g.exits.1 h.exits.1) }
+  out = (g.out.0 ++ h.out.0, joined k.out l.out m.out g.out.0 h.out.0 g.out.1 h.out.1);
+  err = (g.err.0 ++ h.err.0, joined k.err l.err m.err g.err.0 h.err.0 g.err.1 h.err.1);
+  exits = (g.exits.0 ++ h.exits.0, joined k.exits l.exits m.exits g.exits.0 h.exits.0 g.exits.1 h.exits.1);
+}
 
 one_grows : (e : Effect) (k : Kernel) → Grows k (apply e k)
 one_grows (Reads kind pid address bytes) k = same k

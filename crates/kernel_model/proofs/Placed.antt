@@ -1,6 +1,6 @@
 -- Applying the effects of instructions to the kernel is putting their registers and their space at the
 -- process.
-use Rattle.std.proofs.Common.{◌≡◌, ℕ, zero, suc, Bool, true, false, cond, refl, eqb, sym, ◌∙◌, ap, subst, List, [], ◌∷◌, ◌++◌, Option, Some, None}
+use Rattle.std.proofs.Common.{◌≡◌, ℕ, zero, suc, Bool, true, false, cond, refl, eqb, sym, ◌∙◌, ap, List, [], ◌∷◌, ◌++◌, Option, Some, None}
 use Rattle.std.proofs.lemmas.Bool.{eq-eqb, cond-true}
 use Rattle.lego_base.specs.Space.{Space, permits, bytes_at, number_of, bytes_of, with_bytes, with_space}
 use Rattle.rv64_decode.specs.declared.Instr.{Instr}
@@ -11,7 +11,7 @@ use Rattle.rv64_step.specs.declared.cpu.StepEnd.TheVariants.{Next, Call, Dead}
 use Rattle.rv64_step.specs.Meaning.{Asks, Ends, Loads, Stores, asks}
 use Rattle.kernel_model.specs.State.{Kernel, Process, at_pid, placed}
 use Rattle.kernel_model.specs.Effects.{Effect, applies}
-use Rattle.kernel_model.specs.Instructions.{Ran, asked, obeyed, one, many, goes_on, behind}
+use Rattle.kernel_model.specs.Instructions.{Ran, asked, obeyed, one, many, goes_on}
 
 -- effects one after the other
 pub applies-append : (es fs : List Effect) (k : Kernel) → applies (es ++ fs) k ≡ applies fs (applies es k)

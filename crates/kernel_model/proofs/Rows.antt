@@ -1,12 +1,10 @@
 -- Worked runs, by computation.
-use Rattle.std.specs.Prelude.{◌≡◌, ℕ, ◌-◌, Bool, if◌then◌else◌, nat_le, nat_lt, ◌&&◌, List, [], ◌∷◌, ◌++◌, length, Option, Some, None, replicate, slice_index, refl}
-use Rattle.lego_base.specs.declared.report.Exit.{Exit}
-use Rattle.lego_base.specs.declared.report.EndWord.TheVariants.{Done, Spent}
-use Rattle.lego_base.specs.declared.records.Area.{Area}
+use Rattle.std.specs.Prelude.{◌≡◌, ℕ, List, [], ◌∷◌, length, Some, None, replicate, refl}
+use Rattle.lego_base.specs.declared.report.EndWord.TheVariants.{Done}
 use Rattle.rv64_decode.specs.Table.{decoded, row_of, table}
 use Rattle.rv64_step.specs.declared.cpu.Cpu.{Cpu}
 use Rattle.kernel_model.specs.State.{Kernel, no_kernel}
-use Rattle.kernel_model.specs.Effects.{Effect, Maps, Fills, Starts, applies}
+use Rattle.kernel_model.specs.Effects.{Maps, Fills, Starts, applies}
 use Rattle.kernel_model.specs.Turns.{Plan, flat, flat_effects, ended}
 
 -- a program of 36 bytes of code and the text "hi": write(1, text, 2), then exit(0)

@@ -1,5 +1,5 @@
 -- Steps of the loop over instructions: what is left to run gives what the whole gives.
-use Rattle.std.proofs.Common.{◌≡◌, ℕ, suc, refl, sym, ◌∙◌, ap, subst}
+use Rattle.std.proofs.Common.{◌≡◌, ℕ, suc, ◌∙◌, subst}
 use Rattle.lego_base.specs.Space.{Space}
 use Rattle.rv64_step.specs.declared.cpu.Cpu.{Cpu}
 use Rattle.rv64_step.specs.declared.cpu.StepEnd.{StepEnd}
@@ -23,9 +23,10 @@ pub last_call : (whole : Ran) (m n pid : ℕ) (cpu cpu' : Cpu) (space space' : S
 last_call whole m n pid cpu cpu' space space' e ends step =
     let whole_next = subst (λ (m : ℕ). EndsAs whole (many m pid cpu space)) e ends in
     let after : Agrees whole (one pid cpu space).stop (one pid cpu space).cpu (one pid cpu space).space = record {
-        stops = (subst (λ (stop : StepEnd). EndsAs whole (goes_on stop (one pid cpu space) (many n pid (one pid cpu space).cpu (one pid cpu space).space))) step.stops whole_next).stops;
-        left = (subst (λ (stop : StepEnd). EndsAs whole (goes_on stop (one pid cpu space) (many n pid (one pid cpu space).cpu (one pid cpu space).space))) step.stops whole_next).left;
-        sees = (subst (λ (stop : StepEnd). EndsAs whole (goes_on stop (one pid cpu space) (many n pid (one pid cpu space).cpu (one pid cpu space).space))) step.stops whole_next).sees } in
+      stops = (subst (λ (stop : StepEnd). EndsAs whole (goes_on stop (one pid cpu space) (many n pid (one pid cpu space).cpu (one pid cpu space).space))) step.stops whole_next).stops;
+      left = (subst (λ (stop : StepEnd). EndsAs whole (goes_on stop (one pid cpu space) (many n pid (one pid cpu space).cpu (one pid cpu space).space))) step.stops whole_next).left;
+      sees = (subst (λ (stop : StepEnd). EndsAs whole (goes_on stop (one pid cpu space) (many n pid (one pid cpu space).cpu (one pid cpu space).space))) step.stops whole_next).sees;
+    } in
     record { stops = after.stops ∙ step.stops; left = after.left ∙ step.left; sees = after.sees ∙ step.sees }
 
 -- where it killed the process, so does the whole

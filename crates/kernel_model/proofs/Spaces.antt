@@ -3,7 +3,6 @@ use Rattle.std.proofs.Common.{◌≡◌, ℕ, Bool, true, false, cond, refl, eqb
 use Rattle.std.proofs.lemmas.Bool.{eqb-true, eq-eqb}
 use Rattle.lego_base.specs.Space.{Space, with_space}
 
-
 -- what holds of the first holds of the choice where the test is true
 pub if_true : {A : Type 0} (P : A → Type 0) (b : Bool) (x y : A) → b ≡ true → P x → P (cond b x y)
 if_true P b x y e p = subst (λ (b : Bool). P (cond b x y)) (sym e) p

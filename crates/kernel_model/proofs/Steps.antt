@@ -1,5 +1,5 @@
 -- A step over any memory is the one instruction of the definitions.
-use Rattle.std.proofs.Common.{◌≡◌, ℕ, Bool, true, false, cond, refl, sym, ◌∙◌, ap, subst, Option, Some, None, Result, Ok, Err, IfOk, IsTrue, List, []}
+use Rattle.std.proofs.Common.{◌≡◌, ℕ, Bool, refl, sym, ◌∙◌, ap, subst, Option, Some, None, Result, Ok, Err, IfOk, IsTrue, List}
 use Rattle.lego_base.specs.declared.stops.Halt.{Halt}
 use Rattle.lego_base.specs.declared.stops.MemStop.{MemStop}
 use Rattle.lego_base.specs.declared.stops.MemStop.TheVariants as mem_stop
@@ -8,7 +8,7 @@ use Rattle.rv64_decode.specs.declared.Instr.{Instr}
 use Rattle.rv64_decode.specs.Table.{decoded}
 use Rattle.rv64_step.specs.declared.cpu.Cpu.{Cpu}
 use Rattle.rv64_step.specs.declared.cpu.StepEnd.{StepEnd}
-use Rattle.rv64_step.specs.declared.cpu.StepEnd.TheVariants.{Next, Call, Dead}
+use Rattle.rv64_step.specs.declared.cpu.StepEnd.TheVariants.{Next, Dead}
 use Rattle.rv64_step.specs.Access.{Reads, Writes, Keeps, Changes, Fetched, Loaded, Stored}
 use Rattle.rv64_step.specs.Meaning.{Asks, Ends, Loads, Stores, asks, Does, Obeys, AfterFetch, AfterLoad, AfterStore, IsStep}
 use Rattle.kernel_model.specs.Agrees.{Agrees}
@@ -26,22 +26,22 @@ loaded_is : (pid address n : ℕ) (cpu : Cpu) (after : ℕ → Cpu) (old new : S
 loaded_is pid address n cpu after old new (Ok value) result cpu' reads keeps ends =
     came (asked pid cpu old (Loads address n after)) cpu' new result Next ends.0
     (if_true (λ (r : Ran). Agrees r Next cpu' new) (permits old 1 address n) _ _ reads.0
-        (record { stops = refl; left = sym (ap after reads.1) ∙ sym ends.1; sees = sym keeps }))
+    (record { stops = refl; left = sym (ap after reads.1) ∙ sym ends.1; sees = sym keeps }))
 loaded_is pid address n cpu after old new (Err mem_stop.Segv) result cpu' reads keeps ends =
     came (asked pid cpu old (Loads address n after)) cpu' new result (Dead 11) ends.0
     (if_false (λ (r : Ran). Agrees r (Dead 11) cpu' new) (permits old 1 address n) _ _ reads
-        (record { stops = refl; left = sym ends.1; sees = sym keeps }))
+    (record { stops = refl; left = sym ends.1; sees = sym keeps }))
 loaded_is pid address n cpu after old new (Err (mem_stop.Halt halt)) result cpu' reads keeps ends = halted _ cpu' new result halt ends.0
 
 stored_is : (pid address n value : ℕ) (cpu after : Cpu) (old new : Space) (answer : Result (Unit {0}) MemStop) (result : Result StepEnd Halt) (cpu' : Cpu) → Writes old address n answer → Changes answer address n value old new → AfterStore cpu after answer result cpu' → IfOk result (λ stop. Agrees (asked pid cpu old (Stores address n value after)) stop cpu' new)
 stored_is pid address n value cpu after old new (Ok done) result cpu' writes changes ends =
     came (asked pid cpu old (Stores address n value after)) cpu' new result Next ends.0
     (if_true (λ (r : Ran). Agrees r Next cpu' new) (permits old 2 address n) _ _ writes
-        (record { stops = refl; left = sym ends.1; sees = sym changes }))
+    (record { stops = refl; left = sym ends.1; sees = sym changes }))
 stored_is pid address n value cpu after old new (Err mem_stop.Segv) result cpu' writes changes ends =
     came (asked pid cpu old (Stores address n value after)) cpu' new result (Dead 11) ends.0
     (if_false (λ (r : Ran). Agrees r (Dead 11) cpu' new) (permits old 2 address n) _ _ writes
-        (record { stops = refl; left = sym ends.1; sees = sym changes }))
+    (record { stops = refl; left = sym ends.1; sees = sym changes }))
 stored_is pid address n value cpu after old new (Err (mem_stop.Halt halt)) result cpu' writes changes ends = halted _ cpu' new result halt ends.0
 
 -- A memory that serves every process.
@@ -75,7 +75,7 @@ module _ {X : Type 0} (serves : X → ℕ → Bool) (space : X → ℕ → Space
   fetched_is cpu old mid new (Err mem_stop.Segv) result cpu' fetched rest =
       came (one pid cpu (space old pid)) cpu' (space new pid) result (Dead 11) rest.0
       (if_false (λ (r : Ran). Agrees r (Dead 11) cpu' (space new pid)) (permits (space old pid) 4 cpu.pc 4) _ _ fetched.reads
-          (record { stops = refl; left = sym rest.1; sees = sym (fetched.keeps pid (all old pid)) ∙ ap (λ x. space x pid) (sym rest.2) }))
+      (record { stops = refl; left = sym rest.1; sees = sym (fetched.keeps pid (all old pid)) ∙ ap (λ x. space x pid) (sym rest.2) }))
   fetched_is cpu old mid new (Err (mem_stop.Halt halt)) result cpu' fetched rest = halted _ cpu' (space new pid) result halt rest.0
 
   -- a step that ended is the one instruction, on the space before it and the space after it

@@ -1,12 +1,12 @@
 -- The system calls, one row a call: the answers that come first, in order, then the effects and the answer
 -- of the call. Arguments are in registers 10 to 15 (a0 to a5), the number is in register 17 (a7), and the
 -- answer goes to register 10, as in syscall(2) for RISC-V.
-use Rattle.std.specs.Prelude.{ℕ, ◌+◌, ◌-◌, ◌*◌, ◌%◌, ◌^◌, ◌==◌, Bool, true, false, not, if◌then◌else◌, min, List, [], ◌∷◌, ◌++◌, Option, Some, None}
+use Rattle.std.specs.Prelude.{ℕ, ◌-◌, ◌*◌, ◌%◌, ◌^◌, ◌==◌, Bool, true, false, not, if◌then◌else◌, min, List, [], ◌∷◌, ◌++◌, Option, Some, None}
 use Rattle.lego_base.specs.Space.{permits, bytes_at}
 use Rattle.rv64_step.specs.declared.cpu.Cpu.{Cpu}
 use Rattle.rv64_step.specs.Meaning.{reg, with_reg, next_pc}
 use Rattle.kernel_model.specs.State.{Kernel}
-use Rattle.kernel_model.specs.Effects.{Effect, Reads, Goes, Puts, Dies, Kind, CopyIn, Stream, Out}
+use Rattle.kernel_model.specs.Effects.{Effect, Reads, Goes, Puts, Dies, CopyIn, Out}
 
 -- the calls that are built
 pub data Call : Type 0 where
@@ -48,9 +48,9 @@ abbrev pub write_row : ℕ → ℕ → ℕ → ℕ → Kernel → Called
 write_row pid fd address len k =
     if fd == 1
     then first ((len == 0, 0)
-              ∷ (not (permits (k.space pid) 1 address (counted len)), minus 14) ∷ [])
-         (Gives (Reads CopyIn pid address (bytes_at (k.space pid) address (counted len))
-               ∷ Puts Out (bytes_at (k.space pid) address (counted len)) ∷ []) (counted len))
+    ∷ (not (permits (k.space pid) 1 address (counted len)), minus 14) ∷ [])
+    (Gives (Reads CopyIn pid address (bytes_at (k.space pid) address (counted len))
+    ∷ Puts Out (bytes_at (k.space pid) address (counted len)) ∷ []) (counted len))
     else Unbuilt
 
 -- exit(2)

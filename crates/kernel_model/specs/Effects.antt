@@ -1,9 +1,9 @@
 -- What can happen to the kernel, as data: an instruction, a call, a turn and a run are lists of effects.
-use Rattle.std.specs.Prelude.{◌≡◌, ℕ, Bool, List, [], ◌∷◌, ◌++◌}
+use Rattle.std.specs.Prelude.{ℕ, List, [], ◌∷◌, ◌++◌}
 use Rattle.lego_base.specs.declared.records.Area.{Area}
-use Rattle.lego_base.specs.Space.{Space, with_bytes, with_space}
+use Rattle.lego_base.specs.Space.{with_bytes, with_space}
 use Rattle.rv64_step.specs.declared.cpu.Cpu.{Cpu}
-use Rattle.kernel_model.specs.State.{Kernel, Process, State, Live, at_pid, after_death, exit}
+use Rattle.kernel_model.specs.State.{Kernel, Live, at_pid, after_death, exit}
 
 -- for what an access to a space was made: an instruction's own bytes, a load, a store, or a call's copy
 -- from the space or to it

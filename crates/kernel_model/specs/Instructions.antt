@@ -1,5 +1,5 @@
 -- Instructions of a process, as effects. They need its registers and its space alone.
-use Rattle.std.specs.Prelude.{ℕ, zero, suc, ◌+◌, List, [], ◌∷◌, ◌++◌, Option, Some, None, if◌then◌else◌}
+use Rattle.std.specs.Prelude.{ℕ, zero, suc, List, [], ◌∷◌, ◌++◌, Option, Some, None, if◌then◌else◌}
 use Rattle.lego_base.specs.Space.{Space, permits, bytes_at, number_of, bytes_of, with_bytes}
 use Rattle.rv64_decode.specs.declared.Instr.{Instr}
 use Rattle.rv64_decode.specs.Table.{decoded}
@@ -7,7 +7,7 @@ use Rattle.rv64_step.specs.declared.cpu.Cpu.{Cpu}
 use Rattle.rv64_step.specs.declared.cpu.StepEnd.{StepEnd}
 use Rattle.rv64_step.specs.declared.cpu.StepEnd.TheVariants.{Next, Call, Dead}
 use Rattle.rv64_step.specs.Meaning.{Asks, Ends, Loads, Stores, asks}
-use Rattle.kernel_model.specs.Effects.{Effect, Reads, Writes, Refused, Goes, Kind, Fetch, Load, Store}
+use Rattle.kernel_model.specs.Effects.{Effect, Reads, Writes, Refused, Goes, Fetch, Load, Store}
 
 -- what running instructions did: the effects in order, how the last one ended, and the registers and the
 -- space after it

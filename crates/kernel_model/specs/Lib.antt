@@ -5,3 +5,4 @@ pub mod Calls
 pub mod Turns
 pub mod Agrees
 pub mod Laws
+pub mod Boot

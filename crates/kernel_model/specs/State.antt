@@ -1,5 +1,5 @@
 -- The state of the one plain kernel.
-use Rattle.std.specs.Prelude.{◌≡◌, ◌==◌, ℕ, ◌&&◌, Bool, true, false, not, if◌then◌else◌, List, [], ◌∷◌, ◌++◌, map, filter, Option, Some, None}
+use Rattle.std.specs.Prelude.{◌==◌, ℕ, ◌&&◌, Bool, true, false, if◌then◌else◌, List, [], ◌∷◌, map, filter, Option, Some, None}
 use Rattle.lego_base.specs.declared.report.Exit.{Exit}
 use Rattle.lego_base.specs.Space.{Space, no_space, with_space}
 use Rattle.rv64_step.specs.declared.cpu.Cpu.{Cpu}
