@@ -1,0 +1,7 @@
+use Rattle.std.proofs.Common.{sym, subst}
+use Rattle.flat_memory.specs.Access.{Copied}
+use Rattle.flat_memory.proofs.memory.FlatMemory.copy_in.Goals as goal
+
+pub returns-in_default : goal.returns-in_default
+returns-in_default c =
+    subst (λ space. Copied space c.args.addr c.args.len c.no_bytes.result) (sym c.in_default.ensures) (c.no_bytes.ensures c.args.addr)

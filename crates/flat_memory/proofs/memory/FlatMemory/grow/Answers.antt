@@ -1,0 +1,13 @@
+use Rattle.std.proofs.Common.{◌≡◌, ℕ, ◌∷◌, [], ◌++◌, sym, ap, ◌∙◌, arith, rules}
+use Rattle.lego_base.specs.Space.{Space, no_space}
+use Rattle.flat_memory.specs.Spaces.{space_of, space_at}
+use Rattle.flat_memory.proofs.Spaces.{at-push}
+use Rattle.flat_memory.proofs.memory.FlatMemory.grow.Goals as goal
+
+pub loop-pid-preserved : goal.loop-pid-preserved
+loop-pid-preserved c =
+    let empty : space_of c.in_ok-space.space ≡ no_space = c.in_ok-space.ensures ∙ ap (λ areas. record { areas = areas; byte = λ a. 0 }) c.in_ok-areas.ensures in
+    ap space_at c.in_ok-push.ensures.items ∙ at-push c.loop-pid.self.spaces.items c.in_ok-space.space empty ∙ c.loop-pid.invariant
+
+pub returns-in_err-push-clause-spaces : goal.returns-in_err-push-clause-spaces
+returns-in_err-push-clause-spaces c = ap space_at c.in_err-push.ensures.items ∙ c.loop-pid.invariant
