@@ -1,0 +1,6 @@
+pub mod Standing
+pub mod Outcomes
+pub mod Made
+pub mod Turned
+pub mod Runs
+pub mod Loading
