@@ -1,0 +1,4 @@
+pub mod Lines
+pub mod Ran
+pub mod Causes
+pub mod Exact
