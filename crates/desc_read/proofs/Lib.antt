@@ -1,0 +1,6 @@
+pub mod Lists
+pub mod Fields
+pub mod Unknown
+pub mod Entries
+pub mod Whole
+mod Rows

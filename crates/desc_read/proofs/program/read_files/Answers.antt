@@ -1,0 +1,27 @@
+use Rattle.std.proofs.Common.{◌≡◌, List, refl}
+use Rattle.serde_json.specs.Data.{Data}
+use Rattle.desc_read.specs.declared.place.EntryList.TheVariants.{Files}
+use Rattle.desc_read.specs.declared.plan.FileFrom.{FileFrom}
+use Rattle.desc_read.specs.Objects.{entry_after}
+use Rattle.desc_read.specs.Plans.{files_of, file_of}
+use Rattle.desc_read.proofs.Fields.{stops}
+use Rattle.desc_read.proofs.Entries.{entry_fails, no_entry}
+use Rattle.desc_read.proofs.program.read_files.Goals as goal
+
+pub returns-in-Err : goal.returns-in-Err
+unfolding files_of
+returns-in-Err c = stops _ _ c.in-Err.fault c.in-Err.ensures
+
+pub returns-in_err-file : goal.returns-in_err-file
+unfolding files_of
+returns-in_err-file c =
+    let check = λ (before : List FileFrom) (e : Data). file_of (entry_after Files before) e before in
+    let refused = rw (← c.loop-index.invariant.1, c.as_slice.ensures.value) at c.in_err-file.ensures in
+    rw c.in-Ok.ensures
+    (entry_fails check c.in-Ok.values.now c.loop-index.index c.loop-index.files.items _ c.loop-index.invariant.0 c.from_residual-in_err-file.result _ c.index-values-index.result c.loop-index-test.true c.index-values-index.is c.from_residual-in_err-file.ensures.1 refused)
+
+pub returns : goal.returns
+unfolding files_of
+returns c =
+    let check = λ (before : List FileFrom) (e : Data). file_of (entry_after Files before) e before in
+    rw (c.in-Ok.ensures, c.from_vec.ensures) (no_entry check c.in-Ok.values.now c.loop-index.index c.loop-index.files.items _ c.loop-index.invariant.0 c.loop-index-test.false)

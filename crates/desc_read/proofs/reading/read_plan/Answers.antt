@@ -1,0 +1,20 @@
+use Rattle.std.proofs.Common.{◌≡◌, IsUtf8, codes, rules}
+use Rattle.std.proofs.lemmas.Str.{is_utf8-from_IsUtf8}
+use Rattle.desc_read.specs.declared.fault.DescKind.TheVariants.{Syntax}
+use Rattle.desc_read.specs.Plans.{described}
+use Rattle.desc_read.proofs.Fields.{fails_at}
+use Rattle.desc_read.proofs.Whole.{no_reading}
+use Rattle.desc_read.proofs.reading.read_plan.Goals as goal
+
+pub returns-in-Ok-plan_of_value : goal.returns-in-Ok-plan_of_value
+unfolding described
+returns-in-Ok-plan_of_value c = rw (is_utf8-from_IsUtf8 c.args.bytes.now c.in-Ok.ensures.ok.0, c.in-Ok.ensures.ok.1) c.in-Ok-plan_of_value.ensures
+
+pub returns-in-Ok : goal.returns-in-Ok
+unfolding described
+returns-in-Ok c = rw (is_utf8-from_IsUtf8 c.args.bytes.now c.in-Ok.ensures.ok.0, c.in-Ok.ensures.ok.1) (search rules)
+
+pub returns : goal.returns
+returns c =
+    fails_at Syntax (codes ".") c.no_text.result _ c.no_text.ensures
+    (no_reading c.args.bytes.now (λ (text : IsUtf8 c.args.bytes.now). c.in-Err.ensures.err (λ memory. c.in_default.not-Memory (c.classify.ensures.memory.1 memory)) text))
