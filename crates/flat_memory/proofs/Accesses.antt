@@ -37,9 +37,9 @@ permits-page space need address (suc m) n (suc k) e h =
     let page : (address + 1) / 4096 ≡ address / 4096 = omega arith in
     let next : address + 1 + suc m ≡ address + suc (suc m) = omega arith in
     ap (λ b. allows (perms_of space.areas (address / 4096)) need && b)
-      (permits-page space need (address + 1) m n k (omega arith) (omega arith)
-      ∙ ap (λ p. allows (perms_of space.areas p) need && permits space need (address + 1 + suc m) n) page
-      ∙ ap (λ a. allows (perms_of space.areas (address / 4096)) need && permits space need a n) next)
+    (permits-page space need (address + 1) m n k (omega arith) (omega arith)
+    ∙ ap (λ p. allows (perms_of space.areas p) need && permits space need (address + 1 + suc m) n) page
+    ∙ ap (λ a. allows (perms_of space.areas (address / 4096)) need && permits space need a n) next)
     ∙ and-self (allows (perms_of space.areas (address / 4096)) need) (permits space need (address + suc (suc m)) n)
 
 -- bytes of one page are permitted where the page permits them
@@ -87,8 +87,8 @@ width-some (suc n) h = elim (cases_lt 8 (suc n)) [
   | inr less ↦ (omega arith, less)
 ]
   where
-  wide : (k : ℕ) → 8 < k → IsTrue (is_width k) → ⊥
-  wide k more h = grind arith
+    wide : (k : ℕ) → 8 < k → IsTrue (is_width k) → ⊥
+    wide k more h = grind arith
 
 -- one byte more in front
 pub number-more : (space : Space) (a b m r value byte : ℕ) → m ≡ suc r → a + 1 ≡ b → value ≡ number_of (bytes_at space b r) → byte ≡ space.byte a → value * 256 + byte ≡ number_of (bytes_at space a m)

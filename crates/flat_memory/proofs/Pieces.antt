@@ -49,12 +49,12 @@ module _ (entry entry' : ℕ → ℕ) (areas : List Area) (bytes : List ℕ) (pa
   own-byte_at : (a : ℕ) → get_or bytes (place_in entry' a) 0 ≡ get_or bytes (place_in entry a) 0
   own-byte_at a = elim (cases_eq (a / 4096) page) [
     | inl h ↦
-      let own : entry' page / 4096 * 4096 ≡ length bytes = own-is_own.1 in
-      let f : entry' (a / 4096) / 4096 ≡ entry' page / 4096 = ap (λ k. entry' k / 4096) h in
-      let g : entry (a / 4096) / 4096 ≡ entry page / 4096 = ap (λ k. entry k / 4096) h in
-      let past : length bytes ≤ entry' (a / 4096) / 4096 * 4096 + a % 4096 = omega arith in
-      let place : entry (a / 4096) / 4096 * 4096 + a % 4096 ≡ a % 4096 = omega arith in
-      get_or_past bytes (place_in entry' a) 0 past ∙ sym (ap (λ k. get_or bytes k 0) place ∙ s.zeros (a % 4096) (omega arith))
+        let own : entry' page / 4096 * 4096 ≡ length bytes = own-is_own.1 in
+        let f : entry' (a / 4096) / 4096 ≡ entry' page / 4096 = ap (λ k. entry' k / 4096) h in
+        let g : entry (a / 4096) / 4096 ≡ entry page / 4096 = ap (λ k. entry k / 4096) h in
+        let past : length bytes ≤ entry' (a / 4096) / 4096 * 4096 + a % 4096 = omega arith in
+        let place : entry (a / 4096) / 4096 * 4096 + a % 4096 ≡ a % 4096 = omega arith in
+        get_or_past bytes (place_in entry' a) 0 past ∙ sym (ap (λ k. get_or bytes k 0) place ∙ s.zeros (a % 4096) (omega arith))
     | inr h ↦ ap (λ k. get_or bytes (k / 4096 * 4096 + a % 4096) 0) (entry-there (a / 4096) h)
   ]
 
@@ -77,35 +77,35 @@ module _ (entry : ℕ → ℕ) (areas : List Area) (bytes : List ℕ) (address :
   written-out : (a : ℕ) → (address ≤ a → a < address + length piece → ⊥) → get_or new (place_in entry a) 0 ≡ get_or bytes (place_in entry a) 0
   written-out a out = elim (cases_eq (a / 4096) (address / 4096)) [
     | inl page ↦
-      let start : entry (a / 4096) / 4096 ≡ entry (address / 4096) / 4096 = ap (λ k. entry k / 4096) page in
-      elim (cases_lt a address) [
-        | inl low ↦ w.below (place_in entry a) (omega arith)
-        | inr low ↦ elim (cases_lt a (address + length piece)) [
-          | inl high ↦ absurd (out low high)
-          | inr high ↦ w.above (place_in entry a) (omega arith)
+        let start : entry (a / 4096) / 4096 ≡ entry (address / 4096) / 4096 = ap (λ k. entry k / 4096) page in
+        elim (cases_lt a address) [
+          | inl low ↦ w.below (place_in entry a) (omega arith)
+          | inr low ↦ elim (cases_lt a (address + length piece)) [
+            | inl high ↦ absurd (out low high)
+            | inr high ↦ w.above (place_in entry a) (omega arith)
+          ]
         ]
-      ]
     | inr page ↦ elim (cases_lt (entry (a / 4096) / 4096) (entry (address / 4096) / 4096)) [
       | inl below ↦ w.below (place_in entry a) (omega arith)
       | inr above ↦
-        let other : entry (address / 4096) / 4096 ≡ entry (a / 4096) / 4096 → ⊥ = λ e. page (sym (s.apart (address / 4096) (a / 4096) own e)) in
-        let more : entry (address / 4096) / 4096 < entry (a / 4096) / 4096 = omega arith in
-        w.above (place_in entry a) (omega arith)
+          let other : entry (address / 4096) / 4096 ≡ entry (a / 4096) / 4096 → ⊥ = λ e. page (sym (s.apart (address / 4096) (a / 4096) own e)) in
+          let more : entry (address / 4096) / 4096 < entry (a / 4096) / 4096 = omega arith in
+          w.above (place_in entry a) (omega arith)
     ]
   ]
 
   written-at : (a : ℕ) → get_or new (place_in entry a) 0 ≡ cond (leb address a && ltb a (address + length piece)) (get_or piece (a - address) 0) (get_or bytes (place_in entry a) 0)
   written-at a = elim (cases_lt a address) [
     | inl low ↦
-      written-out a (λ h k. omega arith)
-      ∙ sym (cond-false (leb address a && ltb a (address + length piece)) _ _ (and_left (leb address a) _ (lt-leb address a low)))
+        written-out a (λ h k. omega arith)
+        ∙ sym (cond-false (leb address a && ltb a (address + length piece)) _ _ (and_left (leb address a) _ (lt-leb address a low)))
     | inr low ↦ elim (cases_lt a (address + length piece)) [
       | inl high ↦
-        written-in a low high
-        ∙ sym (cond-true (leb address a && ltb a (address + length piece)) _ _ (and_from (leb address a) _ (le-leb address a low) (lt-ltb a (address + length piece) high)))
+          written-in a low high
+          ∙ sym (cond-true (leb address a && ltb a (address + length piece)) _ _ (and_from (leb address a) _ (le-leb address a low) (lt-ltb a (address + length piece) high)))
       | inr high ↦
-        written-out a (λ h k. omega arith)
-        ∙ sym (cond-false (leb address a && ltb a (address + length piece)) _ _ (and_right (leb address a) _ (le-ltb a (address + length piece) high)))
+          written-out a (λ h k. omega arith)
+          ∙ sym (cond-false (leb address a && ltb a (address + length piece)) _ _ (and_right (leb address a) _ (le-ltb a (address + length piece) high)))
     ]
   ]
 

@@ -24,14 +24,14 @@ pub same-quick : (entry entry' : ℕ → ℕ) (quick : List ℕ) → IsQuick ent
 same-quick entry entry' quick q e = record {
   full = q.full;
   uses = λ slot need page rest s h r t.
-    let u = q.uses slot need page rest s h r t in
-    record {
-      exact = u.exact;
-      own_slot = u.own_slot;
-      permits = ap (λ k. permits_by k need) (e page) ∙ u.permits;
-      own = λ k. subst (λ n. 4096 ≤ n) (sym (e page)) (u.own k);
-      shift = u.shift ∙ sym (ap (λ k. k / 4096 * 4096) (e page));
-    };
+      let u = q.uses slot need page rest s h r t in
+      record {
+        exact = u.exact;
+        own_slot = u.own_slot;
+        permits = ap (λ k. permits_by k need) (e page) ∙ u.permits;
+        own = λ k. subst (λ n. 4096 ≤ n) (sym (e page)) (u.own k);
+        shift = u.shift ∙ sym (ap (λ k. k / 4096 * 4096) (e page));
+      };
 }
 
 -- ---- the slot of a page is set
@@ -77,35 +77,35 @@ module _ (entry entry' : ℕ → ℕ) (quick quick' : List ℕ) (own e : ℕ) (q
   slot-here_uses : (need page rest : ℕ) → IsTrue (is_need need) → rest < 8 → get_or quick' (own % 4096 * 4 + need / 2) 0 ≡ page * 4096 + rest → IsUse entry' quick' (own % 4096) need page rest
   slot-here_uses need page rest h r t = elim (need-cases need h) [
     | inl a ↦
-      let half : need / 2 ≡ 0 = omega arith in
-      slot-use need page rest (permits_by e 1) r t (ap (λ k. get_or quick' (own % 4096 * 4 + k) 0) half ∙ w.inside 0 (lit< tt)) (λ b. ap (permits_by e) a ∙ b) (λ b k. absurd (omega arith))
+        let half : need / 2 ≡ 0 = omega arith in
+        slot-use need page rest (permits_by e 1) r t (ap (λ k. get_or quick' (own % 4096 * 4 + k) 0) half ∙ w.inside 0 (lit< tt)) (λ b. ap (permits_by e) a ∙ b) (λ b k. absurd (omega arith))
     | inr rest_of ↦ elim rest_of [
       | inl a ↦
-        let half : need / 2 ≡ 1 = omega arith in
-        slot-use need page rest (leb 4096 e && permits_by e 2) r t (ap (λ k. get_or quick' (own % 4096 * 4 + k) 0) half ∙ w.inside 1 (lit< tt)) (λ b. ap (permits_by e) a ∙ (and_parts (leb 4096 e) (permits_by e 2) b).1) (λ b k. leb-true 4096 e (and_parts (leb 4096 e) (permits_by e 2) b).0)
+          let half : need / 2 ≡ 1 = omega arith in
+          slot-use need page rest (leb 4096 e && permits_by e 2) r t (ap (λ k. get_or quick' (own % 4096 * 4 + k) 0) half ∙ w.inside 1 (lit< tt)) (λ b. ap (permits_by e) a ∙ (and_parts (leb 4096 e) (permits_by e 2) b).1) (λ b k. leb-true 4096 e (and_parts (leb 4096 e) (permits_by e 2) b).0)
       | inr a ↦
-        let half : need / 2 ≡ 2 = omega arith in
-        slot-use need page rest (permits_by e 4) r t (ap (λ k. get_or quick' (own % 4096 * 4 + k) 0) half ∙ w.inside 2 (lit< tt)) (λ b. ap (permits_by e) a ∙ b) (λ b k. absurd (omega arith))
+          let half : need / 2 ≡ 2 = omega arith in
+          slot-use need page rest (permits_by e 4) r t (ap (λ k. get_or quick' (own % 4096 * 4 + k) 0) half ∙ w.inside 2 (lit< tt)) (λ b. ap (permits_by e) a ∙ b) (λ b k. absurd (omega arith))
     ]
   ]
 
   slot-uses : (slot need page rest : ℕ) → slot < 4096 → IsTrue (is_need need) → rest < 8 → get_or quick' (slot * 4 + need / 2) 0 ≡ page * 4096 + rest → IsUse entry' quick' slot need page rest
   slot-uses slot need page rest s h r t = elim (cases_eq slot (own % 4096)) [
     | inl here ↦
-      subst (λ k. IsUse entry' quick' k need page rest) (sym here)
+        subst (λ k. IsUse entry' quick' k need page rest) (sym here)
         (slot-here_uses need page rest h r (ap (λ k. get_or quick' (k * 4 + need / 2) 0) (sym here) ∙ t))
     | inr other ↦
-      let few : need / 2 < 4 = omega (arith, need-few need h) in
-      let u : IsUse entry quick slot need page rest = q.uses slot need page rest s h r (sym (slot-other slot (need / 2) few other) ∙ t) in
-      let apart : page ≡ own → ⊥ = λ k. other (sym u.own_slot ∙ ap (λ n. n % 4096) k) in
-      let there : entry' page ≡ entry page = slot-there page apart in
-      record {
-        exact = u.exact;
-        own_slot = u.own_slot;
-        permits = ap (λ k. permits_by k need) there ∙ u.permits;
-        own = λ k. subst (λ n. 4096 ≤ n) (sym there) (u.own k);
-        shift = ap (λ n. (n + page * 4096) % 18446744073709551616) (slot-other slot 3 (lit< tt) other) ∙ u.shift ∙ sym (ap (λ k. k / 4096 * 4096) there);
-      }
+        let few : need / 2 < 4 = omega (arith, need-few need h) in
+        let u : IsUse entry quick slot need page rest = q.uses slot need page rest s h r (sym (slot-other slot (need / 2) few other) ∙ t) in
+        let apart : page ≡ own → ⊥ = λ k. other (sym u.own_slot ∙ ap (λ n. n % 4096) k) in
+        let there : entry' page ≡ entry page = slot-there page apart in
+        record {
+          exact = u.exact;
+          own_slot = u.own_slot;
+          permits = ap (λ k. permits_by k need) there ∙ u.permits;
+          own = λ k. subst (λ n. 4096 ≤ n) (sym there) (u.own k);
+          shift = ap (λ n. (n + page * 4096) % 18446744073709551616) (slot-other slot 3 (lit< tt) other) ∙ u.shift ∙ sym (ap (λ k. k / 4096 * 4096) there);
+        }
   ]
 
   pub set-quick : IsQuick entry' quick'

@@ -30,8 +30,8 @@ bytes-8 value = grind arith
 pub written-slice : (xs ys : List ℕ) (at place k : ℕ) (piece part : List ℕ) → ys ≡ xs → part ≡ piece → k ≡ length piece → at ≡ place → place + length piece ≤ length xs → Written xs place piece (put_mid at k ys part)
 written-slice xs ys at place k piece part a b n e h =
     subst (λ q. Written xs place piece (put_mid q k ys part)) (sym e)
-      (subst (λ zs. Written xs place piece (put_mid place k zs part)) (sym a)
-        (subst (λ zs. Written xs place piece (put_mid place k xs zs)) (sym b) (written-mid xs place k piece (omega arith) (sym n))))
+    (subst (λ zs. Written xs place piece (put_mid place k zs part)) (sym a)
+    (subst (λ zs. Written xs place piece (put_mid place k xs zs)) (sym b) (written-mid xs place k piece (omega arith) (sym n))))
 
 pub length-bytes_of : (n value : ℕ) → length (bytes_of n value) ≡ n
 length-bytes_of zero value = refl
@@ -64,23 +64,23 @@ append-at address xs ys a old =
     let first = cond (leb address a && ltb a (address + length xs)) (get_or xs (a - address) 0) old in
     elim (cases_lt a address) [
       | inl low ↦
-        below-bytes (address + length xs) a (length ys) _ first (omega arith)
-        ∙ below-bytes address a (length xs) _ old low
-        ∙ sym (below-bytes address a (length (xs ++ ys)) _ old low)
+          below-bytes (address + length xs) a (length ys) _ first (omega arith)
+          ∙ below-bytes address a (length xs) _ old low
+          ∙ sym (below-bytes address a (length (xs ++ ys)) _ old low)
       | inr low ↦ elim (cases_lt a (address + length xs)) [
         | inl middle ↦
-          below-bytes (address + length xs) a (length ys) _ first middle
-          ∙ in-bytes address a (length xs) _ old low middle
-          ∙ sym (in-bytes address a (length (xs ++ ys)) _ old low (omega arith) ∙ get_or_append_left xs ys 0 (a - address) (omega arith))
+            below-bytes (address + length xs) a (length ys) _ first middle
+            ∙ in-bytes address a (length xs) _ old low middle
+            ∙ sym (in-bytes address a (length (xs ++ ys)) _ old low (omega arith) ∙ get_or_append_left xs ys 0 (a - address) (omega arith))
         | inr middle ↦ elim (cases_lt a (address + length xs + length ys)) [
           | inl high ↦
-            let rest : a - address - length xs ≡ a - (address + length xs) = omega arith in
-            in-bytes (address + length xs) a (length ys) _ first middle high
-            ∙ sym (in-bytes address a (length (xs ++ ys)) _ old low (omega arith) ∙ get_or-append_right xs ys (length xs) (a - address) 0 refl (omega arith) ∙ ap (λ k. get_or ys k 0) rest)
+              let rest : a - address - length xs ≡ a - (address + length xs) = omega arith in
+              in-bytes (address + length xs) a (length ys) _ first middle high
+              ∙ sym (in-bytes address a (length (xs ++ ys)) _ old low (omega arith) ∙ get_or-append_right xs ys (length xs) (a - address) 0 refl (omega arith) ∙ ap (λ k. get_or ys k 0) rest)
           | inr high ↦
-            above-bytes (address + length xs) a (length ys) _ first high
-            ∙ above-bytes address a (length xs) _ old middle
-            ∙ sym (above-bytes address a (length (xs ++ ys)) _ old (omega arith))
+              above-bytes (address + length xs) a (length ys) _ first high
+              ∙ above-bytes address a (length xs) _ old middle
+              ∙ sym (above-bytes address a (length (xs ++ ys)) _ old (omega arith))
         ]
       ]
     ]
@@ -93,9 +93,9 @@ pub fill-more : (space : Space) (address done more : ℕ) (bytes : List ℕ) →
 fill-more space address done more bytes h =
     let n : length (take done bytes) ≡ done = length-take-le done bytes h in
     let all : take done bytes ++ take more (drop done bytes) ≡ take (done + more) bytes =
-      ap (λ xs. take done bytes ++ xs) (sym (drop-take done more bytes))
-      ∙ ap (λ xs. xs ++ drop done (take (done + more) bytes)) (sym (take-take done (done + more) bytes (omega arith)))
-      ∙ take-append-drop done (take (done + more) bytes)
+    ap (λ xs. take done bytes ++ xs) (sym (drop-take done more bytes))
+    ∙ ap (λ xs. xs ++ drop done (take (done + more) bytes)) (sym (take-take done (done + more) bytes (omega arith)))
+    ∙ take-append-drop done (take (done + more) bytes)
     in
     ap (λ k. with_bytes (with_bytes space address (take done bytes)) (address + k) (take more (drop done bytes))) (sym n)
     ∙ with_bytes-append space address (take done bytes) (take more (drop done bytes))

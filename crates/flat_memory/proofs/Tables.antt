@@ -46,13 +46,13 @@ entry-set top leaves page entry t h p =
     let n = get_or top (page / 4096) 0 + page % 4096 in
     elim (cases_eq p page) [
       | inl e ↦
-        let within : get_or top (page / 4096) 0 + page % 4096 < length leaves = omega (arith, t.ends (page / 4096)) in
-        ap (λ q. get_or (set leaves n entry) (get_or top (q / 4096) 0 + q % 4096) 0) e
-        ∙ get_or-set_same leaves n entry 0 within
-        ∙ ap (λ b. cond b entry (get_or leaves (get_or top (p / 4096) 0 + p % 4096) 0)) (sym (eq-eqb p page e))
+          let within : get_or top (page / 4096) 0 + page % 4096 < length leaves = omega (arith, t.ends (page / 4096)) in
+          ap (λ q. get_or (set leaves n entry) (get_or top (q / 4096) 0 + q % 4096) 0) e
+          ∙ get_or-set_same leaves n entry 0 within
+          ∙ ap (λ b. cond b entry (get_or leaves (get_or top (p / 4096) 0 + p % 4096) 0)) (sym (eq-eqb p page e))
       | inr ne ↦
-        get_or-set_other leaves n (get_or top (p / 4096) 0 + p % 4096) entry 0 (λ e. ne (sym (places-apart top leaves t page p h (sym e))))
-        ∙ ap (λ b. cond b entry (get_or leaves (get_or top (p / 4096) 0 + p % 4096) 0)) (sym (ne_eqb p page ne))
+          get_or-set_other leaves n (get_or top (p / 4096) 0 + p % 4096) entry 0 (λ e. ne (sym (places-apart top leaves t page p h (sym e))))
+          ∙ ap (λ b. cond b entry (get_or leaves (get_or top (p / 4096) 0 + p % 4096) 0)) (sym (ne_eqb p page ne))
     ]
 
 pub table-set : (top leaves : List ℕ) (region k entry : ℕ) → IsTable top leaves → 0 < get_or top region 0 → IsTable top (set leaves (get_or top region 0 + k) entry)
@@ -72,10 +72,10 @@ entry-own_leaf top leaves region t h z p =
     get_or-append_zeros leaves 4096 (get_or (set top region (length leaves)) (p / 4096) 0 + p % 4096)
     ∙ elim (cases_eq (p / 4096) region) as (λ _. get_or leaves (get_or (set top region (length leaves)) (p / 4096) 0 + p % 4096) 0 ≡ get_or leaves (get_or top (p / 4096) 0 + p % 4096) 0) [
       | inl e ↦
-        let within : region < length top = omega (arith, t.full) in
-        ap (λ q. get_or leaves (get_or (set top region (length leaves)) q 0 + p % 4096) 0) e
-        ∙ ap (λ q. get_or leaves (q + p % 4096) 0) (get_or-set_same top region (length leaves) 0 within)
-        ∙ get_or_past leaves (length leaves + p % 4096) 0 (omega arith)
-        ∙ sym (ap (λ q. get_or leaves (get_or top q 0 + p % 4096) 0) e ∙ ap (λ q. get_or leaves (q + p % 4096) 0) z ∙ t.zeros (0 + p % 4096) (omega arith))
+          let within : region < length top = omega (arith, t.full) in
+          ap (λ q. get_or leaves (get_or (set top region (length leaves)) q 0 + p % 4096) 0) e
+          ∙ ap (λ q. get_or leaves (q + p % 4096) 0) (get_or-set_same top region (length leaves) 0 within)
+          ∙ get_or_past leaves (length leaves + p % 4096) 0 (omega arith)
+          ∙ sym (ap (λ q. get_or leaves (get_or top q 0 + p % 4096) 0) e ∙ ap (λ q. get_or leaves (q + p % 4096) 0) z ∙ t.zeros (0 + p % 4096) (omega arith))
       | inr ne ↦ ap (λ q. get_or leaves (q + p % 4096) 0) (get_or-set_other top region (p / 4096) (length leaves) 0 ne)
     ]

@@ -98,9 +98,13 @@ impl GuestMem for FlatMemory {
     ghost use Rattle.flat_memory.specs.Spaces.{spaces_of};
 
     ghost serves = { λ m q. true };
+
     ghost space = { λ m q. spaces_of m q };
+
     ghost fetches = { λ m q a answer n. n ≡ m };
+
     ghost loads = { λ m q a len answer n. n ≡ m };
+
     ghost stores = { λ m q a len value answer n. (r : _) → (r ≡ q → ⊥) → spaces_of n r ≡ spaces_of m r };
 
     #[inline(always)]

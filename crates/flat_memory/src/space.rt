@@ -18,7 +18,7 @@ const PAGE: usize = 4096;
 #[derive(Debug, Drop)]
 pub struct FlatSpace {
     areas: Areas,
-    table: Table,   // by page, where its bytes begin in `bytes`, plus its permissions
+    table: Table, // by page, where its bytes begin in `bytes`, plus its permissions
     bytes: Vec<u8>, // in pieces of a page: the first is zeros, and isn't written
     ghost ok: { IsSpace (entry_of table) areas bytes.items },
 }

@@ -26,7 +26,7 @@ const SLOT: usize = 4;
 /// It is 0 where it wasn't set.
 #[derive(Debug, Drop)]
 pub struct Table {
-    top: Vec<u32>,    // by region, where its leaf begins in `leaves`: at 0 is a leaf of zeros that isn't written
+    top: Vec<u32>, // by region, where its leaf begins in `leaves`: at 0 is a leaf of zeros that isn't written
     leaves: Vec<u64>, // by page, the entries of a leaf
     quick: Vec<u64>, // in slots of four numbers, by the page's number modulo `SLOTS`: the quick way
     ghost ok: { IsTable top.items leaves.items },
@@ -133,11 +133,7 @@ pub fn permits(entry: u64, need: u64) -> bool
 }
 
 // Where a region's own leaf begins. It is made where the region has none.
-fn own_leaf(
-    top: &mut Vec<u32>,
-    leaves: &mut Vec<u64>,
-    region: usize,
-) -> Result<usize, NoMemory>
+fn own_leaf(top: &mut Vec<u32>, leaves: &mut Vec<u64>, region: usize) -> Result<usize, NoMemory>
     requires table { IsTable top.old.items leaves.old.items }
     requires region { region < 16384 }
     ensures table { IsTable top.new.items leaves.new.items }

@@ -36,7 +36,10 @@ fn loads_and_stores_go_by_each_byte(rt: HostRuntime) -> Result<(), Fail> {
     ];
     for (addr, len, may) in stores {
         let answer = if may { Ok(()) } else { segv };
-        assert_eq!(rt; memory.store(Pid(2), addr, len, 0x8877_6655_4433_2211), answer);
+        assert_eq!(rt;
+            memory.store(Pid(2), addr, len, 0x8877_6655_4433_2211),
+            answer
+        );
     }
     // Where, how many bytes, and the number that is there, if they may be loaded.
     let loads: [(u64, u8, Option<u64>); 12] = [
@@ -80,8 +83,16 @@ fn bytes_are_filled_fetched_and_copied(rt: HostRuntime) -> Result<(), Fail> {
         Err(_) => assert!(rt; false),
     }
     assert!(rt; memory.copy_in(rt.alloc(), Pid(2), 0x12ff8, 9).is_err());
-    assert!(rt; memory.copy_in(rt.alloc(), Pid(2), 0x40_0000_0000, 1).is_err());
-    assert!(rt; memory.copy_in(rt.alloc(), Pid(9), 0x40_0000_0000, 0).is_ok());
+    assert!(rt;
+        memory
+            .copy_in(rt.alloc(), Pid(2), 0x40_0000_0000, 1)
+            .is_err()
+    );
+    assert!(rt;
+        memory
+            .copy_in(rt.alloc(), Pid(9), 0x40_0000_0000, 0)
+            .is_ok()
+    );
     let mut areas = Areas::new(rt.alloc())?;
     areas.put(Vpn(17), 2, Perms::READ)?;
     memory.create(Pid(2), areas)?;

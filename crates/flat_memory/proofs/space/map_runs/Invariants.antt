@@ -7,5 +7,5 @@ use Rattle.flat_memory.proofs.space.map_runs.Given as goal
 abbrev pub invariant-loop-i : goal.invariant-loop-i
 invariant-loop-i l = record {
   perms : (p : ℕ) → entry_of l.table p ≡ bits_of (perms_of (drop l.i l.runs) p);
-  small : (p : ℕ) → entry_of l.table p < 4096
+  small : (p : ℕ) → entry_of l.table p < 4096;
 }

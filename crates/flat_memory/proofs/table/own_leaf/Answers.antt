@@ -13,6 +13,6 @@ returns-clause-same c =
     let place : c.in-Ok.place ≡ length leaves = search rules in
     let more : c.resize.new.self.items ≡ leaves ++ replicate 4096 0 = grown leaves c.resize.new.self.items (vec_len c.args.leaves.now) c.len-leaf.result 4096 (c.args.leaves.now.ok.0) (search rules) c.in_ok-resize.ensures.items in
     λ p.
-      ap (λ n. entry_in (set top c.args.region n) c.resize.new.self.items p) place
-      ∙ ap (λ xs. entry_in (set top c.args.region (length leaves)) xs p) more
-      ∙ entry-own_leaf top leaves c.args.region c.requires.table c.requires.region none p
+    ap (λ n. entry_in (set top c.args.region n) c.resize.new.self.items p) place
+    ∙ ap (λ xs. entry_in (set top c.args.region (length leaves)) xs p) more
+    ∙ entry-own_leaf top leaves c.args.region c.requires.table c.requires.region none p

@@ -14,8 +14,8 @@ returns c =
     let within : pid < length spaces = omega (arith, c.in_ok-grow.ensures.room, c.grow.new.self.spaces.ok.0) in
     let before : space_of old ≡ spaces_of c.args.self.now pid = ap space_of c.index_mut-space.ensures.value ∙ sym (at-within spaces pid old within) ∙ ap (λ f. f pid) c.in_ok-grow.ensures.spaces in
     on-ok c.fill.result _ _
-      (λ h.
-        at-set spaces pid c.fill.new.self within
-        ∙ ap (λ f. with_space f pid (space_of c.fill.new.self)) c.in_ok-grow.ensures.spaces
-        ∙ ap (with_space (spaces_of c.args.self.now) pid) (h ∙ ap (λ s. with_bytes s addr bytes) before))
-      c.fill.ensures
+    (λ h.
+    at-set spaces pid c.fill.new.self within
+    ∙ ap (λ f. with_space f pid (space_of c.fill.new.self)) c.in_ok-grow.ensures.spaces
+    ∙ ap (with_space (spaces_of c.args.self.now) pid) (h ∙ ap (λ s. with_bytes s addr bytes) before))
+    c.fill.ensures

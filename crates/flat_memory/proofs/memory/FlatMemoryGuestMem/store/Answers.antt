@@ -30,6 +30,6 @@ returns c =
       served = λ q. refl;
       writes = subst (λ space. Writes space c.args.addr c.args.len c.store.result) (sym before) c.store.ensures.writes;
       changes = subst (λ space. Changes c.store.result c.args.addr c.args.len c.args.value space (space_at (set spaces pid new) pid)) (sym before)
-        (subst (λ space. Changes c.store.result c.args.addr c.args.len c.args.value (space_of old) space) (sym after) c.store.ensures.changes);
+          (subst (λ space. Changes c.store.result c.args.addr c.args.len c.args.value (space_of old) space) (sym after) c.store.ensures.changes);
       keeps = λ q ne h. keeps c.store.result _ _ (set-there spaces pid new q ne);
     }

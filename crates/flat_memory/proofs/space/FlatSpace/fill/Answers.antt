@@ -14,7 +14,7 @@ loop-done-preserved c =
     record {
       within = omega arith;
       filled = page
-        ∙ ap (λ n. with_bytes (space_of c.loop-done.self) (c.args.addr + done) (take n (drop done bytes))) width
-        ∙ ap (λ s. with_bytes s (c.args.addr + done) (take more (drop done bytes))) c.loop-done.invariant.filled
-        ∙ fill-more (space_of c.args.self.now) c.args.addr done more bytes c.loop-done.invariant.within;
+          ∙ ap (λ n. with_bytes (space_of c.loop-done.self) (c.args.addr + done) (take n (drop done bytes))) width
+          ∙ ap (λ s. with_bytes s (c.args.addr + done) (take more (drop done bytes))) c.loop-done.invariant.filled
+          ∙ fill-more (space_of c.args.self.now) c.args.addr done more bytes c.loop-done.invariant.within;
     }

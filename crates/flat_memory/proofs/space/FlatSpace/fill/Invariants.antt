@@ -6,7 +6,7 @@ use Rattle.flat_memory.proofs.space.FlatSpace.fill.Given as goal
 abbrev pub invariant-loop-done : goal.invariant-loop-done
 invariant-loop-done l = record {
   within : l.done ≤ length l.bytes;
-  filled : space_of l.self ≡ with_bytes (space_of l.fn.self) l.addr (take l.done l.bytes)
+  filled : space_of l.self ≡ with_bytes (space_of l.fn.self) l.addr (take l.done l.bytes);
 }
 
 abbrev pub decreases-loop-done : goal.decreases-loop-done

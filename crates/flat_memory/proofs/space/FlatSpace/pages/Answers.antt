@@ -21,8 +21,8 @@ loop-done-preserved c =
     record {
       within = omega arith;
       copied = copied
-        ∙ ap (λ xs. xs ++ take (place + more - place) (drop place s.bytes.items)) c.loop-done.invariant.copied
-        ∙ ap (λ n. bytes_at (space_of s) c.args.addr c.loop-done.done ++ take n (drop place s.bytes.items)) width
-        ∙ ap (λ xs. bytes_at (space_of s) c.args.addr c.loop-done.done ++ xs) (sym (bytes-within (entry_of s.table) s.areas s.bytes.items at more inside ∙ ap (λ n. window s.bytes.items n more) (sym start) ∙ window-part s.bytes.items place more ends))
-        ∙ sym (bytes_at-append (space_of s) c.args.addr c.loop-done.done more);
+          ∙ ap (λ xs. xs ++ take (place + more - place) (drop place s.bytes.items)) c.loop-done.invariant.copied
+          ∙ ap (λ n. bytes_at (space_of s) c.args.addr c.loop-done.done ++ take n (drop place s.bytes.items)) width
+          ∙ ap (λ xs. bytes_at (space_of s) c.args.addr c.loop-done.done ++ xs) (sym (bytes-within (entry_of s.table) s.areas s.bytes.items at more inside ∙ ap (λ n. window s.bytes.items n more) (sym start) ∙ window-part s.bytes.items place more ends))
+          ∙ sym (bytes_at-append (space_of s) c.args.addr c.loop-done.done more);
     }

@@ -7,7 +7,7 @@ abbrev pub invariant-loop-left : goal.invariant-loop-left
 invariant-loop-left l = record {
   same : permits (space_of l.self) l.need l.at l.left ≡ permits (space_of l.self) l.need l.addr l.len;
   end : l.at + l.left ≡ l.addr + l.len;
-  some : 0 < l.len → 0 < l.left
+  some : 0 < l.len → 0 < l.left;
 }
 
 abbrev pub decreases-loop-left : goal.decreases-loop-left

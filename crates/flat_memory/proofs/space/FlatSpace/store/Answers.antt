@@ -20,8 +20,8 @@ returns-in-Some-clause-changes c =
     let own : 4096 ≤ entry_of s.table (addr / 4096) = found.own refl in
     let place : c.in-Some.at ≡ place_in (entry_of s.table) addr = found.place in
     let written : Written s.bytes.items (place_in (entry_of s.table) addr) piece c.put.new.bytes =
-      subst (λ k. Written s.bytes.items k piece c.put.new.bytes) place
-        (subst (λ xs. Written xs c.in-Some.at piece c.put.new.bytes) c.deref_mut.ensures.value c.put.ensures)
+    subst (λ k. Written s.bytes.items k piece c.put.new.bytes) place
+    (subst (λ xs. Written xs c.in-Some.at piece c.put.new.bytes) c.deref_mut.ensures.value c.put.ensures)
     in
     let stays : (with_items s.bytes c.put.new.bytes).items ≡ c.put.new.bytes = with_items_is s.bytes c.put.new.bytes (written.length_stays ∙ sym s.bytes.ok.0) in
     ap (λ ys. record { areas = s.areas; byte = byte_in (entry_of s.table) ys }) stays
