@@ -8,5 +8,5 @@ use Rattle.plain_kernel.proofs.instructions.run_some.Given as goal
 abbrev pub invariant-loop-n : goal.invariant-loop-n
 invariant-loop-n l = record {
   others : (q : ℕ) → (q ≡ l.pid.0 → ⊥) → spaces_of l.memory q ≡ spaces_of l.fn.memory q;
-  ends : EndsAs (many l.most l.pid.0 l.fn.cpu (spaces_of l.fn.memory l.pid.0)) (many (l.most - l.n) l.pid.0 l.cpu (spaces_of l.memory l.pid.0));
+  ends : EndsAs (many l.most l.pid.0 l.fn.cpu (spaces_of l.fn.memory l.pid.0)) (many (l.most - l.n) l.pid.0 l.now (spaces_of l.memory l.pid.0));
 }
