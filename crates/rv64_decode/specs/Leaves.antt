@@ -1,11 +1,8 @@
 -- What the functions for one opcode answer: the table's group, searched by the fields that they are given.
 use Rattle.std.specs.Prelude.{ℕ, ◌==◌, ◌&&◌, List, Option, find}
 use Rattle.std.specs.Option.{option_map}
-use Rattle.rv64_decode.specs.declared.Instr.{Instr}
 use Rattle.rv64_decode.specs.declared.Op.{Op}
-use Rattle.rv64_decode.specs.declared.encoding.Format.{Format}
-use Rattle.rv64_decode.specs.Encoding.{immediate}
-use Rattle.rv64_decode.specs.Table.{Fixed, nothing, funct3, funct6, funct7, others, Row, with_registers}
+use Rattle.rv64_decode.specs.Table.{Fixed, nothing, funct3, funct6, funct7, others, Row}
 
 abbrev pub funct3_of : Fixed → ℕ
 funct3_of nothing = 0
@@ -33,7 +30,3 @@ op_by_both rows f3 upper = option_map (λ row. row.op) (find (λ row. f3 == func
 -- the operation of the row with these bits above the opcode
 abbrev pub op_by_others : List Row → ℕ → Option Op
 op_by_others rows n = option_map (λ row. row.op) (find (λ row. n == upper_of row.fixed) rows)
-
--- an operation with a word's registers and immediate
-abbrev pub named : ℕ → Format → Option Op → Option Instr
-named word format op = option_map (λ op. with_registers word op (immediate format word)) op

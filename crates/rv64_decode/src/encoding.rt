@@ -1,10 +1,9 @@
 //! How an instruction lies in its word: fields, formats and immediates.
-ghost use Rattle.std.specs.Prelude.{◌≡◌, ◌<◌, ◌≤◌, ◌+◌, ◌^◌, IfSome};
+ghost use Rattle.std.specs.Prelude.{◌≡◌, ◌<◌, ◌≤◌, ◌+◌, ◌^◌};
 ghost use Rattle.rv64_decode.specs.Encoding.{field, sign_extended, immediate};
-ghost use Rattle.rv64_decode.specs.Leaves.{named};
-ghost use Rattle.rv64_decode.specs.Laws.{HasRegisters};
+ghost use Rattle.rv64_decode.specs.Table.{format_of};
 
-use crate::{Instr, Op};
+use crate::Op;
 
 /// The instruction formats of the RISC-V manual, by their immediates: the R type has none, and the
 /// amount of a shift, an I type in the manual, is a format of its own.
@@ -49,9 +48,36 @@ fn signed(n: u32, width: u32) -> i64
     }
 }
 
-/// The immediate of a word of this format.
+/// The number of the register that a word names as its destination: bits 11..7.
 #[inline(always)]
-fn immediate_of(word: u32, format: Format) -> i64
+pub fn rd(word: u32) -> u32
+    ensures value { result ≡ field 7 5 word }
+    ensures fits { result < 32 }
+{
+    bits(word, 7, 5)
+}
+
+/// The number of the register that a word names as its first source: bits 19..15.
+#[inline(always)]
+pub fn rs1(word: u32) -> u32
+    ensures value { result ≡ field 15 5 word }
+    ensures fits { result < 32 }
+{
+    bits(word, 15, 5)
+}
+
+/// The number of the register that a word names as its second source: bits 24..20.
+#[inline(always)]
+pub fn rs2(word: u32) -> u32
+    ensures value { result ≡ field 20 5 word }
+    ensures fits { result < 32 }
+{
+    bits(word, 20, 5)
+}
+
+/// The immediate of a word of this format, sign extended; of a shift its amount; 0 where the format has none.
+#[inline(always)]
+pub fn immediate(word: u32, format: Format) -> i64
     ensures { result ≡ immediate format word }
 {
     match format {
@@ -74,20 +100,20 @@ fn immediate_of(word: u32, format: Format) -> i64
     }
 }
 
-/// An operation with the registers and the immediate of a word.
-#[inline(always)]
-pub fn made(word: u32, op: Option<Op>, format: Format) -> Option<Instr>
-    ensures value { result ≡ named word format op }
-    ensures registers { IfSome result HasRegisters }
+/// The format of an operation.
+pub fn format_of(op: Op) -> Format
+    ensures { result ≡ format_of op }
 {
     match op {
-        Some(op) => Some(Instr {
-            op,
-            rd: bits(word, 7, 5) as u8,
-            rs1: bits(word, 15, 5) as u8,
-            rs2: bits(word, 20, 5) as u8,
-            imm: immediate_of(word, format),
-        }),
-        None => None,
+        Op::Lui | Op::Auipc => Format::UType,
+        Op::Jal => Format::JType,
+        Op::Beq | Op::Bne | Op::Blt | Op::Bge | Op::Bltu | Op::Bgeu => Format::BType,
+        Op::Jalr | Op::Lb | Op::Lh | Op::Lw | Op::Ld | Op::Lbu | Op::Lhu | Op::Lwu => Format::IType,
+        Op::Addi | Op::Slti | Op::Sltiu | Op::Xori | Op::Ori | Op::Andi | Op::Addiw =>
+            Format::IType,
+        Op::Sb | Op::Sh | Op::Sw | Op::Sd => Format::SType,
+        Op::Slli | Op::Srli | Op::Srai => Format::Shift,
+        Op::Slliw | Op::Srliw | Op::Sraiw => Format::ShiftWord,
+        _ => Format::RType,
     }
 }

@@ -7,7 +7,8 @@
 #![tactic(auto)]
 
 ghost use Rattle.std.specs.Prelude.{◌≡◌, IfSome};
-ghost use Rattle.rv64_decode.specs.Table.{decoded};
+ghost use Rattle.std.specs.Option.{option_map};
+ghost use Rattle.rv64_decode.specs.Table.{decoded, of_word};
 ghost use Rattle.rv64_decode.specs.Laws.{NoTwoShare, RowsDecode, OthersAreNone, FitsByMask, MatchesLieUnderMasks, ImmediatesInRange, HasRegisters};
 
 mod encoding;
@@ -16,7 +17,8 @@ mod opcodes;
 mod tests;
 mod text;
 
-use encoding::{Format, bits, made};
+pub use encoding::{Format, immediate, rd, rs1, rs2};
+use encoding::{bits, format_of};
 
 /// The operation of an instruction: one for each instruction name of RV64I and M.
 #[derive(Clone, Copy, PartialEq, Eq, Debug)]
@@ -108,29 +110,45 @@ pub fn decode(word: u32) -> Option<Instr>
     ensures table { result ≡ decoded word }
     ensures registers { IfSome result HasRegisters }
 {
+    match operation(word) {
+        Some(op) => Some(Instr {
+            op,
+            rd: rd(word) as u8,
+            rs1: rs1(word) as u8,
+            rs2: rs2(word) as u8,
+            imm: immediate(word, format_of(op)),
+        }),
+        None => None,
+    }
+}
+
+/// The operation of the instruction that a word is, for those who read the word's registers and immediate
+/// themselves as they need them: `None` where the word is no instruction of RV64IM.
+#[inline(always)]
+pub fn operation(word: u32) -> Option<Op>
+    ensures { option_map (of_word word) result ≡ decoded word }
+{
     let funct3 = bits(word, 12, 3);
-    let funct6 = bits(word, 26, 6);
-    let funct7 = bits(word, 25, 7);
     match bits(word, 0, 7) {
-        0x37 => made(word, Some(Op::Lui), Format::UType),
-        0x17 => made(word, Some(Op::Auipc), Format::UType),
-        0x6f => made(word, Some(Op::Jal), Format::JType),
-        0x67 => made(word, opcodes::indirect_jump(funct3), Format::IType),
-        0x63 => made(word, opcodes::branch(funct3), Format::BType),
-        0x03 => made(word, opcodes::load(funct3), Format::IType),
-        0x23 => made(word, opcodes::store(funct3), Format::SType),
+        0x37 => Some(Op::Lui),
+        0x17 => Some(Op::Auipc),
+        0x6f => Some(Op::Jal),
+        0x67 => opcodes::indirect_jump(funct3),
+        0x63 => opcodes::branch(funct3),
+        0x03 => opcodes::load(funct3),
+        0x23 => opcodes::store(funct3),
         0x13 => match funct3 {
-            1 | 5 => made(word, opcodes::shift(funct3, funct6), Format::Shift),
-            _ => made(word, opcodes::constant(funct3), Format::IType),
+            1 | 5 => opcodes::shift(funct3, bits(word, 26, 6)),
+            _ => opcodes::constant(funct3),
         },
-        0x33 => made(word, opcodes::register(funct3, funct7), Format::RType),
+        0x33 => opcodes::register(funct3, bits(word, 25, 7)),
         0x1b => match funct3 {
-            1 | 5 => made(word, opcodes::word_shift(funct3, funct7), Format::ShiftWord),
-            _ => made(word, opcodes::word_constant(funct3), Format::IType),
+            1 | 5 => opcodes::word_shift(funct3, bits(word, 25, 7)),
+            _ => opcodes::word_constant(funct3),
         },
-        0x3b => made(word, opcodes::word_register(funct3, funct7), Format::RType),
-        0x0f => made(word, opcodes::fence(funct3), Format::RType),
-        0x73 => made(word, opcodes::system(bits(word, 7, 25)), Format::RType),
+        0x3b => opcodes::word_register(funct3, bits(word, 25, 7)),
+        0x0f => opcodes::fence(funct3),
+        0x73 => opcodes::system(bits(word, 7, 25)),
         _ => None,
     }
 }

@@ -1,10 +1,12 @@
-//! The operations of each opcode, by the fields that tell them apart.
+//! The operations of each opcode, by the fields that tell them apart. Each is compiled into its caller, where what is
+//! done with an operation can follow the test that finds it.
 ghost use Rattle.std.specs.Prelude.{◌≡◌};
 ghost use Rattle.rv64_decode.specs.Table.{branches, loads, stores, constants, shifts, registers, word_constants, word_shifts, word_registers, fences, systems, indirect_jumps};
 ghost use Rattle.rv64_decode.specs.Leaves.{op_by_funct3, op_by_both, op_by_others};
 
 use crate::Op;
 
+#[inline(always)]
 pub fn indirect_jump(funct3: u32) -> Option<Op>
     ensures { result ≡ op_by_funct3 indirect_jumps funct3 }
 {
@@ -14,6 +16,7 @@ pub fn indirect_jump(funct3: u32) -> Option<Op>
     }
 }
 
+#[inline(always)]
 pub fn branch(funct3: u32) -> Option<Op>
     ensures { result ≡ op_by_funct3 branches funct3 }
 {
@@ -28,6 +31,7 @@ pub fn branch(funct3: u32) -> Option<Op>
     }
 }
 
+#[inline(always)]
 pub fn load(funct3: u32) -> Option<Op>
     ensures { result ≡ op_by_funct3 loads funct3 }
 {
@@ -43,6 +47,7 @@ pub fn load(funct3: u32) -> Option<Op>
     }
 }
 
+#[inline(always)]
 pub fn store(funct3: u32) -> Option<Op>
     ensures { result ≡ op_by_funct3 stores funct3 }
 {
@@ -55,6 +60,7 @@ pub fn store(funct3: u32) -> Option<Op>
     }
 }
 
+#[inline(always)]
 pub fn constant(funct3: u32) -> Option<Op>
     ensures { result ≡ op_by_funct3 constants funct3 }
 {
@@ -69,6 +75,7 @@ pub fn constant(funct3: u32) -> Option<Op>
     }
 }
 
+#[inline(always)]
 pub fn shift(funct3: u32, funct6: u32) -> Option<Op>
     ensures { result ≡ op_by_both shifts funct3 funct6 }
 {
@@ -80,6 +87,7 @@ pub fn shift(funct3: u32, funct6: u32) -> Option<Op>
     }
 }
 
+#[inline(always)]
 pub fn register(funct3: u32, funct7: u32) -> Option<Op>
     ensures { result ≡ op_by_both registers funct3 funct7 }
 {
@@ -106,6 +114,7 @@ pub fn register(funct3: u32, funct7: u32) -> Option<Op>
     }
 }
 
+#[inline(always)]
 pub fn word_constant(funct3: u32) -> Option<Op>
     ensures { result ≡ op_by_funct3 word_constants funct3 }
 {
@@ -115,6 +124,7 @@ pub fn word_constant(funct3: u32) -> Option<Op>
     }
 }
 
+#[inline(always)]
 pub fn word_shift(funct3: u32, funct7: u32) -> Option<Op>
     ensures { result ≡ op_by_both word_shifts funct3 funct7 }
 {
@@ -126,6 +136,7 @@ pub fn word_shift(funct3: u32, funct7: u32) -> Option<Op>
     }
 }
 
+#[inline(always)]
 pub fn word_register(funct3: u32, funct7: u32) -> Option<Op>
     ensures { result ≡ op_by_both word_registers funct3 funct7 }
 {
@@ -144,6 +155,7 @@ pub fn word_register(funct3: u32, funct7: u32) -> Option<Op>
     }
 }
 
+#[inline(always)]
 pub fn fence(funct3: u32) -> Option<Op>
     ensures { result ≡ op_by_funct3 fences funct3 }
 {
@@ -154,6 +166,7 @@ pub fn fence(funct3: u32) -> Option<Op>
 }
 
 /// The bits above the opcode tell the two apart.
+#[inline(always)]
 pub fn system(others: u32) -> Option<Op>
     ensures { result ≡ op_by_others systems others }
 {

@@ -1,7 +1,7 @@
 //! Arithmetic on words of 64 bits. The W forms work on the low 32 bits and sign extend the result.
-ghost use Rattle.std.specs.Prelude.{◌≡◌, ◌%◌, ◌^◌};
+ghost use Rattle.std.specs.Prelude.{◌≡◌, ◌%◌, ◌^◌, int_lt, int_le};
 ghost use Rattle.rv64_step.specs.Arith.{xor, or, and, sra, slt, sltu, mulh, mulhsu, mulhu, div, divu, rem, remu, addw, subw, sllw, srlw, sraw, mulw, divw, divuw, remw, remuw};
-ghost use Rattle.rv64_step.specs.Word.{sext};
+ghost use Rattle.rv64_step.specs.Word.{signed, sext};
 
 #[inline(always)]
 #[tactic(auto, using(crate::proofs::Digits::xor_is))]
@@ -32,6 +32,22 @@ pub fn sra(a: u64, b: u64) -> u64
     ensures { result ≡ sra a b }
 {
     (a.cast_signed() >> (b % 64)).cast_unsigned()
+}
+
+/// Whether the first is less, as signed numbers.
+#[inline(always)]
+pub fn lt(a: u64, b: u64) -> bool
+    ensures { result ≡ int_lt (signed a) (signed b) }
+{
+    a.cast_signed() < b.cast_signed()
+}
+
+/// Whether the first is at least the second, as signed numbers.
+#[inline(always)]
+pub fn ge(a: u64, b: u64) -> bool
+    ensures { result ≡ int_le (signed b) (signed a) }
+{
+    a.cast_signed() >= b.cast_signed()
 }
 
 #[inline(always)]
