@@ -1,6 +1,6 @@
 //! How an instruction lies in its word: fields, formats and immediates.
-ghost use Rattle.std.specs.Prelude.{◌≡◌, ◌<◌, ◌≤◌, ◌+◌, ◌^◌};
-ghost use Rattle.rv64_decode.specs.Encoding.{field, sign_extended, immediate};
+ghost use Rattle.std.specs.Prelude.{◌≡◌, ◌<◌, ◌≤◌, ◌+◌, ◌-◌, ◌^◌, IsTrue};
+ghost use Rattle.rv64_decode.specs.Encoding.{field, sign_extended, immediate, is_top};
 ghost use Rattle.rv64_decode.specs.Table.{format_of};
 
 use crate::Op;
@@ -33,19 +33,13 @@ pub fn bits(word: u32, from: u32, width: u32) -> u32
     (word >> from) & ((1 << width) - 1)
 }
 
-/// A number of `width` bits, read in two's complement.
+/// The topmost bits of a word, from bit 12, 20, 25 or 31 up, read in two's complement.
 #[inline(always)]
-fn signed(n: u32, width: u32) -> i64
-    requires some { 0 < width }
-    requires most { width < 33 }
-    requires fits { n < 2 ^ width }
-    ensures { result ≡ sign_extended width n }
+fn top(word: u32, from: u32) -> i64
+    requires { IsTrue (is_top from) }
+    ensures { result ≡ sign_extended (32 - from) (field from (32 - from) word) }
 {
-    if (n as u64) < 1 << (width - 1) {
-        n as i64
-    } else {
-        n as i64 - (1 << width)
-    }
+    (word.cast_signed() >> from) as i64
 }
 
 /// The number of the register that a word names as its destination: bits 11..7.
@@ -82,18 +76,18 @@ pub fn immediate(word: u32, format: Format) -> i64
 {
     match format {
         Format::RType => 0,
-        Format::IType => signed(bits(word, 20, 12), 12),
-        Format::SType => signed(bits(word, 7, 5) + (bits(word, 25, 7) << 5), 12),
+        Format::IType => top(word, 20),
+        Format::SType => top(word, 25) * 32 + bits(word, 7, 5) as i64,
         Format::BType => {
             let low = (bits(word, 8, 4) << 1) + (bits(word, 25, 6) << 5);
-            let high = (bits(word, 7, 1) << 11) + (bits(word, 31, 1) << 12);
-            signed(low + high, 13)
+            let high = bits(word, 7, 1) << 11;
+            top(word, 31) * 4096 + (low + high) as i64
         }
-        Format::UType => signed(bits(word, 12, 20) << 12, 32),
+        Format::UType => top(word, 12) * 4096,
         Format::JType => {
             let low = (bits(word, 21, 10) << 1) + (bits(word, 20, 1) << 11);
-            let high = (bits(word, 12, 8) << 12) + (bits(word, 31, 1) << 20);
-            signed(low + high, 21)
+            let high = bits(word, 12, 8) << 12;
+            top(word, 31) * 1_048_576 + (low + high) as i64
         }
         Format::Shift => bits(word, 20, 6) as i64,
         Format::ShiftWord => bits(word, 20, 5) as i64,
