@@ -61,6 +61,28 @@ push-at (first ∷ spaces) space e (suc q) = push-at spaces space e q
 pub at-push : (spaces : List FlatSpace) (space : FlatSpace) → space_of space ≡ no_space → space_at (spaces ++ space ∷ []) ≡ space_at spaces
 at-push spaces space e = λ i q. push-at spaces space e q i
 
+-- a space behind them
+end-here : (spaces : List FlatSpace) (space : FlatSpace) → space_at (spaces ++ space ∷ []) (length spaces) ≡ space_of space
+unfolding space_at
+end-here [] space = refl
+end-here (first ∷ spaces) space = end-here spaces space
+
+end-there : (spaces : List FlatSpace) (space : FlatSpace) (q : ℕ) → (q ≡ length spaces → ⊥) → space_at (spaces ++ space ∷ []) q ≡ space_at spaces q
+unfolding space_at
+end-there [] space zero ne = absurd (ne refl)
+end-there [] space (suc q) ne = refl
+end-there (first ∷ spaces) space zero ne = refl
+end-there (first ∷ spaces) space (suc q) ne = end-there spaces space q (λ e. ne (ap suc e))
+
+end-at : (spaces : List FlatSpace) (pid : ℕ) (space : FlatSpace) → length spaces ≡ pid → (q : ℕ) → space_at (spaces ++ space ∷ []) q ≡ cond (eqb q pid) (space_of space) (space_at spaces q)
+end-at spaces pid space n q = elim (cases_eq q pid) [
+  | inl e ↦ ap (space_at (spaces ++ space ∷ [])) (e ∙ sym n) ∙ end-here spaces space ∙ sym (cond-true (eqb q pid) (space_of space) (space_at spaces q) (eq-eqb q pid e))
+  | inr ne ↦ end-there spaces space q (λ e. ne (e ∙ n)) ∙ sym (cond-false (eqb q pid) (space_of space) (space_at spaces q) (ne_eqb q pid ne))
+]
+
+pub at-end : (spaces : List FlatSpace) (pid : ℕ) (space : FlatSpace) → length spaces ≡ pid → space_at (spaces ++ space ∷ []) ≡ with_space (space_at spaces) pid (space_of space)
+at-end spaces pid space n = λ i q. end-at spaces pid space n q i
+
 -- what a look-up by pid finds
 pub looked-up : (spaces : List FlatSpace) (pid : ℕ) (found : Option (Bor FlatSpace)) → IsItemAt spaces pid found → MatchOption found (space_at spaces pid ≡ no_space) (λ space. space_at spaces pid ≡ space_of space.now)
 looked-up spaces pid None h = at-past spaces pid h.3

@@ -1,7 +1,7 @@
 -- Quick ways from an address to its byte. A list has slots of four numbers: which page may be loaded from there, stored
 -- to, fetched from, each as the address where the page begins or as a number that begins no page; and what to add to
 -- an address of the page, modulo 2^64, for the place of its byte. A page may stand in one slot alone, that of its
--- number modulo 4096.
+-- number modulo 1024.
 use Rattle.std.specs.Prelude.{◌≡◌, ◌==◌, ℕ, ◌+◌, ◌-◌, ◌*◌, ◌/◌, ◌%◌, ◌^◌, ◌<◌, ◌≤◌, nat_le, Bool, true, ◌&&◌, ◌||◌, IsTrue, if◌then◌else◌, List, [], ◌∷◌, length, slice_index}
 use Rattle.flat_memory.specs.Frames.{place_in}
 
@@ -24,15 +24,15 @@ slot_of page entry = tag_of (permits_by entry 1) page ∷ tag_of (nat_le 4096 en
 -- what a slot says of a page
 pub record IsUse (entry : ℕ → ℕ) (quick : List ℕ) (slot need page rest : ℕ) : Type 0 where
   pub exact : rest ≡ 0
-  pub own_slot : page % 4096 ≡ slot
+  pub own_slot : page % 1024 ≡ slot
   pub permits : permits_by (entry page) need ≡ true
   pub own : need ≡ 2 → 4096 ≤ entry page
   pub shift : (slice_index quick (slot * 4 + 3) + page * 4096) % 18446744073709551616 ≡ entry page / 4096 * 4096
 
 -- each slot says what is so
 pub record IsQuick (entry : ℕ → ℕ) (quick : List ℕ) : Type 0 where
-  pub full : length quick ≡ 16384
-  pub uses : (slot need page rest : ℕ) → slot < 4096 → IsTrue (is_need need) → rest < 8 → slice_index quick (slot * 4 + need / 2) ≡ page * 4096 + rest → IsUse entry quick slot need page rest
+  pub full : length quick ≡ 4096
+  pub uses : (slot need page rest : ℕ) → slot < 1024 → IsTrue (is_need need) → rest < 8 → slice_index quick (slot * 4 + need / 2) ≡ page * 4096 + rest → IsUse entry quick slot need page rest
 
 -- a place where n bytes of one page are, which permits something
 pub record IsPlace (entry : ℕ → ℕ) (need address n at : ℕ) : Type 0 where

@@ -34,7 +34,11 @@ impl FlatMemory {
         ensures { OnOk result (spaces_of self.new ≡ with_space (spaces_of self.old) pid.0 (record { areas = areas; byte = λ a. 0 })) }
     {
         let space = FlatSpace::new(self.alloc, areas)?;
-        self.grow(pid)?;
+        self.grow(pid.0 as usize)?;
+        if pid.0 as usize == self.spaces.len() {
+            self.spaces.push(space)?;
+            return Ok(());
+        }
         self.spaces[pid.0 as usize] = space;
         Ok(())
     }
@@ -44,7 +48,7 @@ impl FlatMemory {
         requires { addr + length bytes.now ≤ 2 ^ 38 }
         ensures { OnOk result (spaces_of self.new ≡ with_space (spaces_of self.old) pid.0 (with_bytes (spaces_of self.old pid.0) addr bytes.now)) }
     {
-        self.grow(pid)?;
+        self.grow(pid.0 as usize + 1)?;
         let space = &mut self.spaces[pid.0 as usize];
         space.fill(addr, bytes)
     }
@@ -67,12 +71,12 @@ impl FlatMemory {
         self.spaces.get(pid.0 as usize)
     }
 
-    // Makes room for a pid: up to it there are spaces in which nothing is mapped.
-    fn grow(&mut self, pid: Pid) -> Result<(), NoMemory>
+    // Makes so many spaces at least: nothing is mapped in those that weren't there.
+    fn grow(&mut self, count: usize) -> Result<(), NoMemory>
         ensures spaces { spaces_of self.new ≡ spaces_of self.old }
-        ensures room { OnOk result (pid.0 < vec_len self.new.spaces) }
+        ensures room { OnOk result (count ≤ vec_len self.new.spaces) }
     {
-        while self.spaces.len() <= pid.0 as usize {
+        while self.spaces.len() < count {
             let areas = Areas::new(self.alloc)?;
             let space = FlatSpace::new(self.alloc, areas)?;
             self.spaces.push(space)?;

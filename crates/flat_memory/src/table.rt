@@ -16,8 +16,9 @@ const LEAF: usize = 4096;
 // Regions of `LEAF_PAGES` pages below the end of the addresses, 2^38.
 const REGIONS: usize = 1 << 14;
 
-// Slots of the quick way. Pages that many apart share one, and those that aren't in it take the long way.
-const SLOTS: u64 = 4096;
+// Slots of the quick way: they cover 4 MiB next to each other, and setting up a space writes them all. Pages that many
+// apart share one, and those that aren't in it take the long way.
+const SLOTS: u64 = 1024;
 
 // Numbers of a slot.
 const SLOT: usize = 4;
@@ -94,8 +95,8 @@ impl Table {
 // Makes the slot of a page that of an entry.
 fn set_slot(quick: &mut [u64], page: u64, entry: u64)
     requires page { page < 2 ^ 26 }
-    requires full { length quick.old ≡ 16384 }
-    ensures { Written quick.old (page % 4096 * 4) (slot_of page entry) quick.new }
+    requires full { length quick.old ≡ 4096 }
+    ensures { Written quick.old (page % 1024 * 4) (slot_of page entry) quick.new }
 {
     let slot = (page % SLOTS) as usize * SLOT;
     let numbers = [

@@ -27,7 +27,7 @@ invariant_of-self-2 c =
     let leaves = c.own_leaf.new.leaves.items in
     let leaf = c.in_ok-leaf.leaf in
     let at : get_or top (c.args.page / 4096) 0 ≡ leaf = c.in_ok-leaf.ensures.leaf.1 in
-    let written : Written t.quick.items (c.args.page % 4096 * 4) (slot_of c.args.page c.args.entry) c.set_slot.new.quick = subst (λ xs. Written xs (c.args.page % 4096 * 4) (slot_of c.args.page c.args.entry) c.set_slot.new.quick) c.deref_mut.ensures.value c.set_slot.ensures in
+    let written : Written t.quick.items (c.args.page % 1024 * 4) (slot_of c.args.page c.args.entry) c.set_slot.new.quick = subst (λ xs. Written xs (c.args.page % 1024 * 4) (slot_of c.args.page c.args.entry) c.set_slot.new.quick) c.deref_mut.ensures.value c.set_slot.ensures in
     let quick : IsQuick (entry_in top (set leaves (leaf + c.args.page % 4096) c.args.entry)) c.set_slot.new.quick =
     set-quick (entry_in t.top.items t.leaves.items) (entry_in top (set leaves (leaf + c.args.page % 4096) c.args.entry)) t.quick.items c.set_slot.new.quick c.args.page c.args.entry t.quick_ok c.requires (omega arith) written
     (entries top leaves t.top.items t.leaves.items c.args.page c.args.entry leaf c.in_ok-leaf.ensures.table c.in_ok-leaf.ensures.leaf.0 at c.in_ok-leaf.ensures.same)
