@@ -1,14 +1,14 @@
 -- Reads of the bytes of a space.
-use Rattle.std.proofs.Common.{◌≡◌, ℕ, zero, suc, ◌+◌, ◌-◌, ◌*◌, ◌/◌, ◌%◌, ◌^◌, ◌≤◌, ◌<◌, List, [], ◌∷◌, ◌++◌, length, get_or, take, drop, Bool, true, false, eqb, ◌&&◌, IsTrue, Option, Some, None, inl, inr, refl, sym, ◌∙◌, ap, arith, subst, lit<}
-use Rattle.std.proofs.lemmas.Bool.{cases_lt, and_parts, false≢true, eqb-true}
+use Rattle.std.proofs.Common.{◌≡◌, ℕ, zero, suc, ◌+◌, ◌-◌, ◌*◌, ◌/◌, ◌%◌, ◌^◌, ◌≤◌, ◌<◌, List, ◌∷◌, ◌++◌, length, get_or, take, drop, Bool, true, false, eqb, ◌&&◌, IsTrue, Option, Some, None, inl, inr, refl, sym, ◌∙◌, ap, arith, lit<}
+use Rattle.std.proofs.lemmas.Bool.{cases_lt, false≢true}
 use Rattle.std.proofs.lemmas.List.{drop_more}
 use Rattle.std.proofs.Math.Nat.{pow-suc, pow-le-pow_right}
 use Rattle.lego_base.specs.declared.perms.Perms.{Perms}
 use Rattle.lego_base.specs.declared.records.Area.{Area}
-use Rattle.lego_base.specs.Space.{Space, perms_of, allows, permits, bytes_at, number_of, bytes_of}
+use Rattle.lego_base.specs.Space.{Space, perms_of, allows, permits, bytes_at, number_of}
 use Rattle.rv64_step.specs.Access.{is_width}
 use Rattle.flat_memory.specs.Frames.{bits_of, place_in, byte_in, IsSpace, window}
-use Rattle.flat_memory.specs.Quick.{is_need, permits_by}
+use Rattle.flat_memory.specs.Quick.{permits_by}
 
 -- ---- permissions
 -- what an entry permits

@@ -1,5 +1,5 @@
 -- Where runs end.
-use Rattle.std.proofs.Common.{◌≡◌, ℕ, zero, suc, ◌+◌, ◌^◌, ◌≤◌, ◌<◌, List, [], ◌∷◌, length, get_or, arith}
+use Rattle.std.proofs.Common.{ℕ, zero, suc, ◌^◌, ◌≤◌, ◌<◌, List, [], ◌∷◌, length, get_or, arith}
 use Rattle.lego_base.specs.declared.records.Area.{Area}
 use Rattle.area_list.specs.Runs.{end_of, IsCanonical}
 

@@ -1,7 +1,7 @@
 -- Worked rows.
-use Rattle.std.proofs.Common.{◌≡◌, ℕ, List, [], ◌∷◌, true, false, refl}
+use Rattle.std.proofs.Common.{◌≡◌, [], ◌∷◌, true, false, refl}
 use Rattle.flat_memory.specs.Table.{entry_in}
-use Rattle.flat_memory.specs.Frames.{place_in, window, byte_in}
+use Rattle.flat_memory.specs.Frames.{place_in, window}
 use Rattle.flat_memory.specs.Quick.{permits_by, slot_of}
 
 -- the second region's entries begin at place 3: page 4097 has the one behind it

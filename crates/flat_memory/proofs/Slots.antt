@@ -1,8 +1,8 @@
 -- Slots stay true.
-use Rattle.std.proofs.Common.{◌≡◌, ℕ, zero, suc, ◌+◌, ◌-◌, ◌*◌, ◌/◌, ◌%◌, ◌^◌, ◌≤◌, ◌<◌, ◌⊎◌, List, [], ◌∷◌, length, get_or, replicate, Bool, true, false, cond, eqb, leb, ◌&&◌, IsTrue, inl, inr, refl, sym, ◌∙◌, ap, arith, subst, lit<}
-use Rattle.std.proofs.lemmas.Bool.{cases_lt, cases_eq, cond-true, cond-false, eq-eqb, ne_eqb, eqb-true, leb-true, and_parts}
+use Rattle.std.proofs.Common.{◌≡◌, ℕ, ◌+◌, ◌-◌, ◌*◌, ◌/◌, ◌%◌, ◌≤◌, ◌<◌, ◌⊎◌, List, length, get_or, Bool, true, false, cond, eqb, leb, ◌&&◌, IsTrue, inl, inr, refl, sym, ◌∙◌, ap, arith, subst, lit<}
+use Rattle.std.proofs.lemmas.Bool.{cases_lt, cases_eq, cond-true, cond-false, eq-eqb, ne_eqb, leb-true, and_parts}
 use Rattle.rv64_step.specs.Access.{is_width}
-use Rattle.flat_memory.specs.Frames.{Written, place_in}
+use Rattle.flat_memory.specs.Frames.{Written}
 use Rattle.flat_memory.specs.Quick.{is_need, permits_by, tag_of, slot_of, IsUse, IsQuick, IsPlace}
 
 -- the numbers of a slot by what they are for

@@ -2,7 +2,7 @@
 -- to, fetched from, each as the address where the page begins or as a number that begins no page; and what to add to
 -- an address of the page, modulo 2^64, for the place of its byte. A page may stand in one slot alone, that of its
 -- number modulo 1024.
-use Rattle.std.specs.Prelude.{◌≡◌, ◌==◌, ℕ, ◌+◌, ◌-◌, ◌*◌, ◌/◌, ◌%◌, ◌^◌, ◌<◌, ◌≤◌, nat_le, Bool, true, ◌&&◌, ◌||◌, IsTrue, if◌then◌else◌, List, [], ◌∷◌, length, slice_index}
+use Rattle.std.specs.Prelude.{◌≡◌, ◌==◌, ℕ, ◌+◌, ◌-◌, ◌*◌, ◌/◌, ◌%◌, ◌<◌, ◌≤◌, nat_le, Bool, true, ◌&&◌, ◌||◌, IsTrue, if◌then◌else◌, List, [], ◌∷◌, length, slice_index}
 use Rattle.flat_memory.specs.Frames.{place_in}
 
 -- to load, to store, to fetch

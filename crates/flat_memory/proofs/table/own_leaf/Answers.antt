@@ -1,5 +1,4 @@
-use Rattle.std.proofs.Common.{arith, ◌≡◌, ℕ, ◌+◌, ◌-◌, length, get_or, take, replicate, ◌++◌, set, vec_len, sym, ap, ◌∙◌, rules}
-use Rattle.std.proofs.lemmas.List.{get_or_read}
+use Rattle.std.proofs.Common.{◌≡◌, length, get_or, replicate, ◌++◌, set, vec_len, ap, ◌∙◌, rules}
 use Rattle.flat_memory.specs.Table.{entry_in}
 use Rattle.flat_memory.proofs.Zeros.{grown}
 use Rattle.flat_memory.proofs.Tables.{entry-own_leaf}

@@ -1,4 +1,4 @@
-use Rattle.std.proofs.Common.{◌≡◌, ℕ, ◌+◌, ◌-◌, ◌*◌, ◌%◌, refl, sym, ◌∙◌, arith, rules}
+use Rattle.std.proofs.Common.{◌≡◌, ◌+◌, ◌-◌, ◌*◌, ◌%◌, refl, arith, rules}
 use Rattle.flat_memory.specs.Quick.{slot_of}
 use Rattle.flat_memory.proofs.Stores.{written-slice}
 use Rattle.flat_memory.proofs.table.set_slot.Goals as goal

@@ -1,4 +1,4 @@
-use Rattle.std.proofs.Common.{◌≡◌, ℕ, ◌+◌, ◌-◌, take, sym, ◌∙◌, arith, rules}
+use Rattle.std.proofs.Common.{◌≡◌, ◌+◌, ◌-◌, take, ◌∙◌, arith, rules}
 use Rattle.std.specs.Int.{w64, to_le_bytes}
 use Rattle.flat_memory.proofs.Stores.{written-part, bytes-2, bytes-4, bytes-8}
 use Rattle.flat_memory.proofs.word.put.Goals as goal

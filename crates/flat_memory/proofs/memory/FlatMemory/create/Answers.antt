@@ -1,4 +1,4 @@
-use Rattle.std.proofs.Common.{◌≡◌, ℕ, ◌∷◌, [], ◌++◌, length, sym, ap, ◌∙◌, arith}
+use Rattle.std.proofs.Common.{◌≡◌, length, ap, ◌∙◌, arith}
 use Rattle.lego_base.specs.Space.{with_space}
 use Rattle.flat_memory.specs.Spaces.{space_of, space_at, spaces_of}
 use Rattle.flat_memory.proofs.Spaces.{at-end, at-set}

@@ -1,6 +1,6 @@
-use Rattle.std.proofs.Common.{◌≡◌, ℕ, ◌<◌, length, sym, ap, ◌∙◌, arith}
+use Rattle.std.proofs.Common.{◌≡◌, ◌<◌, length, sym, ap, ◌∙◌, arith}
 use Rattle.lego_base.specs.Space.{with_bytes, with_space}
-use Rattle.flat_memory.specs.Spaces.{space_of, space_at, spaces_of}
+use Rattle.flat_memory.specs.Spaces.{space_of, spaces_of}
 use Rattle.flat_memory.proofs.Spaces.{at-set, at-within, on-ok}
 use Rattle.flat_memory.proofs.memory.FlatMemory.fill.Goals as goal
 

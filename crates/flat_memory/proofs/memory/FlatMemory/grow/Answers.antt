@@ -1,5 +1,5 @@
-use Rattle.std.proofs.Common.{◌≡◌, ℕ, ◌∷◌, [], ◌++◌, sym, ap, ◌∙◌, arith, rules}
-use Rattle.lego_base.specs.Space.{Space, no_space}
+use Rattle.std.proofs.Common.{◌≡◌, ap, ◌∙◌}
+use Rattle.lego_base.specs.Space.{no_space}
 use Rattle.flat_memory.specs.Spaces.{space_of, space_at}
 use Rattle.flat_memory.proofs.Spaces.{at-push}
 use Rattle.flat_memory.proofs.memory.FlatMemory.grow.Goals as goal

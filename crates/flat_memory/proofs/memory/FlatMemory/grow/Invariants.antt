@@ -1,4 +1,4 @@
-use Rattle.std.proofs.Common.{◌≡◌, ◌+◌, ◌-◌, vec_len}
+use Rattle.std.proofs.Common.{◌≡◌, ◌-◌, vec_len}
 use Rattle.flat_memory.specs.Spaces.{spaces_of}
 use Rattle.flat_memory.proofs.memory.FlatMemory.grow.Given as goal
 

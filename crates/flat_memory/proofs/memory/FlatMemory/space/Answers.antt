@@ -1,4 +1,4 @@
-use Rattle.std.proofs.Common.{◌≡◌, MatchOption, ap, subst}
+use Rattle.std.proofs.Common.{◌≡◌, MatchOption, subst}
 use Rattle.lego_base.specs.Space.{no_space}
 use Rattle.flat_memory.specs.Spaces.{space_of, space_at}
 use Rattle.flat_memory.proofs.Spaces.{looked-up}

@@ -1,4 +1,4 @@
-use Rattle.std.proofs.Common.{◌≡◌, ℕ, refl, sym, ap, ◌∙◌, arith, subst, lit<}
+use Rattle.std.proofs.Common.{refl, sym, ap, ◌∙◌, subst, lit<}
 use Rattle.lego_base.specs.Space.{permits}
 use Rattle.rv64_step.specs.Access.{Reads}
 use Rattle.flat_memory.proofs.Spaces.{none-permitted, keeps}

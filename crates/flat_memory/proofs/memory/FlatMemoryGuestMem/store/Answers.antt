@@ -1,4 +1,4 @@
-use Rattle.std.proofs.Common.{◌≡◌, ℕ, ◌<◌, length, false, refl, sym, ap, ◌∙◌, arith, rules, subst, get_or, set}
+use Rattle.std.proofs.Common.{◌≡◌, ◌<◌, length, refl, sym, ap, ◌∙◌, arith, subst, set}
 use Rattle.lego_base.specs.Space.{permits}
 use Rattle.rv64_step.specs.Access.{Writes, Changes}
 use Rattle.flat_memory.specs.Spaces.{space_of, space_at}

@@ -1,11 +1,7 @@
-use Rattle.std.proofs.Common.{◌≡◌, ℕ, ◌+◌, ◌*◌, ◌/◌, ◌%◌, ◌<◌, length, get_or, sym, ap, ◌∙◌, arith}
+use Rattle.std.proofs.Common.{◌≡◌, ◌+◌, ◌*◌, ◌/◌, ◌%◌, ◌<◌, length, get_or, ap, ◌∙◌, arith}
 use Rattle.std.proofs.lemmas.List.{get_or_read}
 use Rattle.flat_memory.specs.Entries.{entry_of}
 use Rattle.flat_memory.specs.Frames.{byte_in}
-use Rattle.flat_memory.proofs.Stores.{written-mid}
-use Rattle.flat_memory.proofs.Accesses.{width-some}
-use Rattle.flat_memory.proofs.Pieces.{written-is}
-use Rattle.flat_memory.proofs.Spaces.{at-push}
 use Rattle.flat_memory.proofs.space.FlatSpace.byte.Goals as goal
 
 pub returns : goal.returns

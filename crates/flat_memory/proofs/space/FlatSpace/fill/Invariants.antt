@@ -1,4 +1,4 @@
-use Rattle.std.proofs.Common.{◌≡◌, ◌+◌, ◌-◌, ◌≤◌, length, take}
+use Rattle.std.proofs.Common.{◌≡◌, ◌-◌, ◌≤◌, length, take}
 use Rattle.lego_base.specs.Space.{with_bytes}
 use Rattle.flat_memory.specs.Spaces.{space_of}
 use Rattle.flat_memory.proofs.space.FlatSpace.fill.Given as goal

@@ -1,8 +1,8 @@
-use Rattle.std.proofs.Common.{◌≡◌, ℕ, ◌+◌, ◌*◌, ◌/◌, ◌%◌, ◌<◌, ◌≤◌, true, sym, ap, ◌∙◌, arith, rules, lit<}
-use Rattle.lego_base.specs.Space.{allows, permits, perms_of, number_of, bytes_at}
+use Rattle.std.proofs.Common.{◌≡◌, ◌/◌, true, sym, ap, ◌∙◌, rules, lit<}
+use Rattle.lego_base.specs.Space.{allows, perms_of, number_of}
 use Rattle.flat_memory.specs.Spaces.{space_of}
 use Rattle.flat_memory.specs.Entries.{entry_of}
-use Rattle.flat_memory.specs.Frames.{window, place_in}
+use Rattle.flat_memory.specs.Frames.{window}
 use Rattle.flat_memory.specs.Quick.{IsPlace}
 use Rattle.flat_memory.proofs.Accesses.{allows-entry, permits-within, bytes-within, width-some}
 use Rattle.flat_memory.proofs.space.FlatSpace.load.Goals as goal

@@ -1,4 +1,4 @@
-use Rattle.std.proofs.Common.{◌≡◌, ℕ, ◌<◌, length, replicate, sym, ap, ◌∙◌, arith, rules}
+use Rattle.std.proofs.Common.{◌≡◌, ℕ, replicate, ap, ◌∙◌, rules}
 use Rattle.lego_base.specs.Space.{perms_of}
 use Rattle.flat_memory.specs.Entries.{entry_of}
 use Rattle.flat_memory.specs.Frames.{bits_of}

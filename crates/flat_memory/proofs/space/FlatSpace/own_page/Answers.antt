@@ -1,5 +1,4 @@
-use Rattle.std.proofs.Common.{◌≡◌, ℕ, ◌+◌, ◌<◌, ◌≤◌, ◌++◌, List, length, replicate, vec_len, cond, eqb, sym, ap, ◌∙◌, arith, rules}
-use Rattle.lego_base.specs.Space.{Space}
+use Rattle.std.proofs.Common.{◌≡◌, ℕ, ◌+◌, ◌<◌, ◌++◌, length, replicate, vec_len, cond, eqb, ap, ◌∙◌, arith, rules}
 use Rattle.flat_memory.specs.Entries.{entry_of}
 use Rattle.flat_memory.specs.Frames.{byte_in}
 use Rattle.flat_memory.proofs.Zeros.{grown}

@@ -1,4 +1,4 @@
-use Rattle.std.proofs.Common.{◌≡◌, ℕ, ◌+◌, ◌-◌, ◌*◌, ◌/◌, ◌%◌, ◌<◌, ◌≤◌, ◌++◌, length, take, drop, sym, ap, ◌∙◌, arith, rules}
+use Rattle.std.proofs.Common.{◌≡◌, ◌+◌, ◌-◌, ◌*◌, ◌/◌, ◌%◌, ◌≤◌, ◌++◌, length, take, drop, sym, ap, ◌∙◌, arith, rules}
 use Rattle.lego_base.specs.Space.{bytes_at}
 use Rattle.flat_memory.specs.Spaces.{space_of}
 use Rattle.flat_memory.specs.Entries.{entry_of}

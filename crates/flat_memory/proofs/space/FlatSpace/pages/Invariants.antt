@@ -1,4 +1,4 @@
-use Rattle.std.proofs.Common.{◌≡◌, ◌+◌, ◌-◌, ◌≤◌}
+use Rattle.std.proofs.Common.{◌≡◌, ◌-◌, ◌≤◌}
 use Rattle.lego_base.specs.Space.{bytes_at}
 use Rattle.flat_memory.specs.Spaces.{space_of}
 use Rattle.flat_memory.proofs.space.FlatSpace.pages.Given as goal

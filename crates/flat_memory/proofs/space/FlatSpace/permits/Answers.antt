@@ -1,5 +1,5 @@
-use Rattle.std.proofs.Common.{◌≡◌, ℕ, ◌+◌, ◌-◌, ◌*◌, ◌/◌, ◌%◌, ◌<◌, ◌≤◌, true, eqb, sym, ap, ◌∙◌, arith, rules}
-use Rattle.lego_base.specs.Space.{allows, permits, perms_of}
+use Rattle.std.proofs.Common.{◌≡◌, ◌+◌, ◌-◌, ◌/◌, ◌%◌, ◌<◌, ◌≤◌, true, sym, ap, ◌∙◌, arith, rules}
+use Rattle.lego_base.specs.Space.{allows, perms_of}
 use Rattle.flat_memory.specs.Spaces.{space_of}
 use Rattle.flat_memory.specs.Entries.{entry_of}
 use Rattle.flat_memory.specs.Quick.{permits_by}

@@ -1,4 +1,4 @@
-use Rattle.std.proofs.Common.{◌≡◌, ℕ, suc, ◌+◌, ◌-◌, ◌*◌, ◌^◌, ◌<◌, ◌≤◌, sym, ap, ◌∙◌, arith, rules, subst}
+use Rattle.std.proofs.Common.{◌≡◌, suc, ◌+◌, ◌-◌, ◌*◌, ◌^◌, ◌<◌, sym, arith, rules, subst}
 use Rattle.flat_memory.specs.Spaces.{space_of}
 use Rattle.flat_memory.proofs.Accesses.{width-some, word-fits, number-fits, number-more}
 use Rattle.flat_memory.proofs.space.FlatSpace.read_across.Goals as goal

@@ -1,11 +1,10 @@
-use Rattle.std.proofs.Common.{◌≡◌, ℕ, ◌+◌, ◌-◌, ◌*◌, ◌/◌, ◌%◌, ◌<◌, ◌≤◌, ◌&&◌, leb, true, refl, length, vec_len, sym, ap, ◌∙◌, arith, rules, subst}
+use Rattle.std.proofs.Common.{◌≡◌, ◌/◌, ◌≤◌, refl, length, sym, ap, ◌∙◌, arith, subst}
 use Rattle.std.specs.Vec.{with_items}
-use Rattle.std.proofs.lemmas.Bool.{and_parts, leb-true}
 use Rattle.std.proofs.lemmas.List.{with_items_is}
-use Rattle.lego_base.specs.Space.{with_bytes, bytes_of}
+use Rattle.lego_base.specs.Space.{bytes_of}
 use Rattle.flat_memory.specs.Entries.{entry_of}
 use Rattle.flat_memory.specs.Frames.{byte_in, place_in, Written}
-use Rattle.flat_memory.specs.Quick.{IsPlace, permits_by}
+use Rattle.flat_memory.specs.Quick.{IsPlace}
 use Rattle.flat_memory.proofs.Stores.{length-bytes_of}
 use Rattle.flat_memory.proofs.Pieces.{written-is}
 use Rattle.flat_memory.proofs.space.FlatSpace.store.Goals as goal

@@ -1,4 +1,4 @@
-use Rattle.std.proofs.Common.{◌≡◌, ℕ, length, get_or, replicate, sym, ap, ◌∙◌, rules}
+use Rattle.std.proofs.Common.{◌≡◌, get_or, replicate, ap, ◌∙◌, rules}
 use Rattle.std.proofs.lemmas.List.{get_or-replicate}
 use Rattle.flat_memory.specs.Table.{entry_in}
 use Rattle.flat_memory.proofs.Zeros.{all_zero}
