@@ -1,0 +1,27 @@
+//! The rules by which a process gets its address space: which pages it begins with, what stands on its stack at the
+//! entry, and where a mapping goes whose caller names no address.
+#![tactic(auto)]
+
+/// The lowest address of the stack, which doesn't grow.
+pub const STACK_START: u64 = 0x3F_FFEF_0000;
+
+/// The address behind the stack.
+pub const STACK_END: u64 = 0x3F_FFFF_0000;
+
+/// The lowest address of a mapping whose caller names none. The loads of an image end at most here.
+pub const MAPPINGS_START: u64 = 0x20_0000_0000;
+
+/// How many arguments and strings of the environment a process starts with at most.
+pub const MOST_STRINGS: usize = 512;
+
+/// How many bytes these strings have at most, a closing 0 for each counted.
+pub const MOST_STRING_BYTES: usize = 65_536;
+
+/// The kind of the auxiliary vector's end, as in getauxval(3) and `elf.h`.
+pub const AT_NULL: u64 = 0;
+
+/// The kind of the size of a page in the auxiliary vector.
+pub const AT_PAGESZ: u64 = 6;
+
+/// The kind of the entry's address in the auxiliary vector.
+pub const AT_ENTRY: u64 = 9;
