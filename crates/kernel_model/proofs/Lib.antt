@@ -4,5 +4,4 @@ pub mod Running
 pub mod Placed
 pub mod Flat
 pub mod Growth
-pub mod Mapping
 pub mod Rows

@@ -8,7 +8,7 @@
 //! on are public in `proofs/`.
 #![tactic(auto)]
 
-ghost use Rattle.kernel_model.specs.Laws.{BootMapsTheLoads, OutputOnlyGrows, RunIsItsEffects, TheEndIsTheEnd};
+ghost use Rattle.kernel_model.specs.Laws.{OutputOnlyGrows, RunIsItsEffects, TheEndIsTheEnd};
 
 /// The run is what its list of effects makes of the kernel that was booted.
 pub fn run_is_its_effects()
@@ -23,10 +23,4 @@ pub fn output_only_grows()
 /// Once no process lives, nothing changes any more.
 pub fn the_end_is_the_end()
     ensures { TheEndIsTheEnd }
-{}
-
-/// Booting maps each page that a load meets with the union of the permissions of the loads that meet it,
-/// and no other page.
-pub fn boot_maps_the_loads()
-    ensures { BootMapsTheLoads }
 {}

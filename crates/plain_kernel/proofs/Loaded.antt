@@ -11,7 +11,8 @@ use Rattle.flat_memory.specs.Spaces.{spaces_of}
 use Rattle.rv64_step.specs.declared.cpu.Cpu.{Cpu}
 use Rattle.kernel_model.specs.State.{Kernel, no_kernel}
 use Rattle.kernel_model.specs.Effects.{Effect, Maps, Starts, apply, applies}
-use Rattle.kernel_model.specs.Boot.{union, with_pages, areas_of, fills_of, start_of, boot_of}
+use Rattle.space_rules.specs.Mapped.{union, with_pages, areas_of}
+use Rattle.kernel_model.specs.Boot.{fills_of, start_of, boot_of}
 use Rattle.plain_kernel.specs.declared.machine.Machine.{Machine}
 use Rattle.plain_kernel.specs.Standing.{kernel_of, processes}
 use Rattle.plain_kernel.specs.Loading.{filled}

@@ -1,6 +1,7 @@
 ghost use Rattle.std.specs.Prelude.{◌≡◌, ◌+◌, ◌≤◌, ◌^◌, [], ◌∷◌, All, IfOk, OnOk};
 ghost use Rattle.elf_image.specs.Image.{IsBoundedSegment};
-ghost use Rattle.kernel_model.specs.Boot.{union, with_pages, areas_of, boot_of};
+ghost use Rattle.space_rules.specs.Mapped.{union, with_pages, areas_of};
+ghost use Rattle.kernel_model.specs.Boot.{boot_of};
 ghost use Rattle.flat_memory.specs.Spaces.{spaces_of};
 ghost use Rattle.plain_kernel.specs.Loading.{filled};
 

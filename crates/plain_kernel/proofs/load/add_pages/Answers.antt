@@ -1,5 +1,5 @@
 use Rattle.plain_kernel.proofs.Loaded.{page_more}
-use Rattle.kernel_model.specs.Boot.{union, with_pages}
+use Rattle.space_rules.specs.Mapped.{union, with_pages}
 use Rattle.std.proofs.Common.{◌∙◌, ap, Option}
 use Rattle.lego_base.specs.declared.perms.Perms.{Perms}
 use Rattle.plain_kernel.proofs.load.add_pages.Goals as goal

@@ -1,5 +1,5 @@
 use Rattle.std.proofs.Common.{◌≡◌, ◌+◌, ◌-◌}
-use Rattle.kernel_model.specs.Boot.{with_pages}
+use Rattle.space_rules.specs.Mapped.{with_pages}
 use Rattle.plain_kernel.proofs.load.add_pages.Given as goal
 
 abbrev pub invariant-loop-page : goal.invariant-loop-page

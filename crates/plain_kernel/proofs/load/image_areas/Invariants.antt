@@ -1,5 +1,5 @@
 use Rattle.std.proofs.Common.{◌≡◌, [], drop}
-use Rattle.kernel_model.specs.Boot.{areas_of}
+use Rattle.space_rules.specs.Mapped.{areas_of}
 use Rattle.plain_kernel.proofs.load.image_areas.Given as goal
 
 -- the areas so far with the loads that are left make the areas of all

@@ -1,4 +1,4 @@
--- The pages that booting maps.
+-- The pages that a process begins with.
 use Rattle.std.proofs.Common.{◌≡◌, ℕ, zero, suc, ◌+◌, ◌*◌, ◌/◌, ◌^◌, ◌<◌, ◌≤◌, ◌⊎◌, inl, inr, Bool, true, false, cond, ◌&&◌, refl, sym, ◌∙◌, ap, List, [], ◌∷◌, Option, Some, None, arith}
 use Rattle.std.specs.Prelude.{nat_le, nat_lt}
 use Rattle.std.specs.List.{AllByRecursion}
@@ -10,8 +10,7 @@ use Rattle.area_list.specs.Runs.{put_runs, in_range, IsCanonical}
 use Rattle.area_list.proofs.Unique.{put-sets}
 use Rattle.elf_image.specs.declared.image.Segment.{Segment}
 use Rattle.elf_image.specs.Image.{IsBoundedSegment}
-use Rattle.kernel_model.specs.Boot.{union, with_pages, first_page, page_count, areas_of}
-use Rattle.kernel_model.specs.Laws.{meets, perms_of_loads}
+use Rattle.space_rules.specs.Mapped.{union, with_pages, first_page, page_count, areas_of, meets, perms_of_loads, read_write, stack_page, stack_pages, image_areas_of}
 
 -- whether a page is one of so many from a page on
 abbrev within : ℕ → ℕ → ℕ → Bool
@@ -106,3 +105,9 @@ loads_map (s ∷ segments) runs all c =
 
 pub boot_maps : (segments : List Segment) → AllByRecursion IsBoundedSegment segments → IsCanonical (areas_of segments []) × ((page : ℕ) → perms_of (areas_of segments []) page ≡ perms_of_loads segments None page)
 boot_maps segments all = loads_map segments [] all tt
+
+pub image_maps : (segments : List Segment) → AllByRecursion IsBoundedSegment segments → IsCanonical (image_areas_of segments) × ((page : ℕ) → perms_of (image_areas_of segments) page ≡ in_range stack_page stack_pages page (Some read_write) (perms_of_loads segments None page))
+image_maps segments all =
+    let loads = boot_maps segments all in
+    let both = put-sets stack_page stack_pages read_write (areas_of segments []) (omega arith) loads.0 in
+    (both.0, λ page. both.1 page ∙ ap (λ (o : Option Perms). in_range stack_page stack_pages page (Some read_write) o) (loads.1 page))
