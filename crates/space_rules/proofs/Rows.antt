@@ -1,7 +1,6 @@
 -- Worked rows of the definitions.
 use Rattle.std.proofs.Common.{◌≡◌, ℕ, ◌-◌, ◌^◌, true, false, List, [], ◌∷◌, Some, None, replicate, refl}
 use Rattle.std.specs.Prelude.{codes}
-use Rattle.lego_base.specs.declared.perms.Perms.{Perms}
 use Rattle.lego_base.specs.declared.records.Area.{Area}
 use Rattle.area_list.specs.Runs.{put_runs}
 use Rattle.area_list.specs.Gap.{lowest_gap}
@@ -24,7 +23,7 @@ pointer : sp_of args env ≡ 0x3FFFFEFF90
 pointer = refl
 
 stack : stack_bytes args env 0x10078 ≡
-      2 ∷ 0 ∷ 0 ∷ 0 ∷ 0 ∷ 0 ∷ 0 ∷ 0
+    2 ∷ 0 ∷ 0 ∷ 0 ∷ 0 ∷ 0 ∷ 0 ∷ 0
     ∷ 0xF7 ∷ 0xFF ∷ 0xFE ∷ 0xFF ∷ 0x3F ∷ 0 ∷ 0 ∷ 0
     ∷ 0xF9 ∷ 0xFF ∷ 0xFE ∷ 0xFF ∷ 0x3F ∷ 0 ∷ 0 ∷ 0
     ∷ 0 ∷ 0 ∷ 0 ∷ 0 ∷ 0 ∷ 0 ∷ 0 ∷ 0

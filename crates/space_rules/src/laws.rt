@@ -1,4 +1,5 @@
 ghost use Rattle.space_rules.specs.Mapped.{BootMapsTheLoads, ImageMapsLoadsAndStack};
+ghost use Rattle.space_rules.specs.Place.{PlaceIsLowest};
 
 /// Booting maps each page that a load meets with the union of the permissions of the loads that meet it,
 /// and no other page.
@@ -10,4 +11,10 @@ pub fn boot_maps_the_loads()
 /// and to write.
 pub fn image_maps_loads_and_stack()
     ensures { ImageMapsLoadsAndStack }
+{}
+
+/// The place of a mapping is the lowest page address, among those for mappings, from which all bytes of
+/// the length are unmapped and end within the address space; where there is none, no address is one.
+pub fn place_is_lowest()
+    ensures { PlaceIsLowest }
 {}

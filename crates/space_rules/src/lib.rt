@@ -4,7 +4,7 @@
 
 mod laws; // what the definitions say of single pages and addresses
 
-pub use laws::{boot_maps_the_loads, image_maps_loads_and_stack};
+pub use laws::{boot_maps_the_loads, image_maps_loads_and_stack, place_is_lowest};
 
 /// The lowest address of the stack, which doesn't grow.
 pub const STACK_START: u64 = 0x3F_FFEF_0000;
