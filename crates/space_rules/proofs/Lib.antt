@@ -1,3 +1,5 @@
 pub mod Mapping
-pub mod Placing
+pub mod Adding
+pub mod Strings
+pub mod LowestPlace
 mod Rows

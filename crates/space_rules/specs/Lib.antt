@@ -1,3 +1,4 @@
 pub mod Start
+pub mod Standing
 pub mod Mapped
 pub mod Place

@@ -1,5 +1,6 @@
 ghost use Rattle.space_rules.specs.Mapped.{BootMapsTheLoads, ImageMapsLoadsAndStack};
 ghost use Rattle.space_rules.specs.Place.{PlaceIsLowest};
+ghost use Rattle.space_rules.specs.Standing.{StackIsWithin};
 
 /// Booting maps each page that a load meets with the union of the permissions of the loads that meet it,
 /// and no other page.
@@ -17,4 +18,9 @@ pub fn image_maps_loads_and_stack()
 /// the length are unmapped and end within the address space; where there is none, no address is one.
 pub fn place_is_lowest()
     ensures { PlaceIsLowest }
+{}
+
+/// Strings that aren't too big have their stack within its pages, up to its end, from a multiple of 16.
+pub fn stack_is_within()
+    ensures { StackIsWithin }
 {}

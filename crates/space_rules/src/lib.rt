@@ -2,9 +2,17 @@
 //! entry, and where a mapping goes whose caller names no address.
 #![tactic(auto)]
 
+mod image; // the pages that a process begins with
 mod laws; // what the definitions say of single pages and addresses
+mod placing; // where a mapping goes
+mod stack; // the stack at a program's entry
+#[cfg(test)]
+mod tests;
 
-pub use laws::{boot_maps_the_loads, image_maps_loads_and_stack, place_is_lowest};
+pub use image::image_areas;
+pub use laws::{boot_maps_the_loads, image_maps_loads_and_stack, place_is_lowest, stack_is_within};
+pub use placing::place;
+pub use stack::{StackFault, StackImage, stack_image};
 
 /// The lowest address of the stack, which doesn't grow.
 pub const STACK_START: u64 = 0x3F_FFEF_0000;

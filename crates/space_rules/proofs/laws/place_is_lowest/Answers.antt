@@ -1,4 +1,4 @@
-use Rattle.space_rules.proofs.Placing.{lowest_place}
+use Rattle.space_rules.proofs.LowestPlace.{lowest_place}
 use Rattle.space_rules.proofs.laws.place_is_lowest.Goals as goal
 
 pub returns : goal.returns

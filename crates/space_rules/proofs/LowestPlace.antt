@@ -30,7 +30,7 @@ gap_of_place areas len at place =
     }
 
 -- a lowest gap in pages is a lowest place in addresses
-lowest_of : (areas : List Area) (len : ℕ) (gap : Option ℕ) → MatchOption gap ((page : ℕ) → 0x2000000 ≤ page → IsGap areas page (pages_for len) → ⊥) (IsLowestGap areas 0x2000000 (pages_for len)) → MatchOption (option_map (λ page. page * 4096) gap) ((at : ℕ) → IsPlace areas len at → ⊥) (IsLowestPlace areas len)
+pub lowest_of : (areas : List Area) (len : ℕ) (gap : Option ℕ) → MatchOption gap ((page : ℕ) → 0x2000000 ≤ page → IsGap areas page (pages_for len) → ⊥) (IsLowestGap areas 0x2000000 (pages_for len)) → MatchOption (option_map (λ page. page * 4096) gap) ((at : ℕ) → IsPlace areas len at → ⊥) (IsLowestPlace areas len)
 lowest_of areas len None none = λ at place. let start : 0x2000000000 ≤ at = place.start in none (at / 4096) (omega arith) (gap_of_place areas len at place)
 lowest_of areas len (Some page) lowest = record {
   place = place_of_gap areas len page lowest.from_first lowest.gap;

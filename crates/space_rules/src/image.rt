@@ -1,0 +1,72 @@
+ghost use Rattle.std.specs.Prelude.{◌≡◌, ◌+◌, ◌≤◌, ◌^◌, [], ◌∷◌, All, IfOk, OnOk};
+ghost use Rattle.elf_image.specs.Image.{IsBoundedSegment};
+ghost use Rattle.space_rules.specs.Mapped.{union, with_pages, areas_of, image_areas_of};
+
+use crate::{STACK_END, STACK_START};
+use area_list::Areas;
+use bitflags::Flags;
+use elf_image::{Image, Segment};
+use lego_base::{NoMemory, PAGE_BYTES, Perms, Vpn};
+use std::alloc::Global;
+
+/// The areas that a process begins with: each page that a load of its image meets, with the union of the
+/// permissions of the loads that meet it, and the stack to read and to write.
+pub fn image_areas(alloc: Global, image: &Image) -> Result<Areas, NoMemory>
+    ensures { IfOk result (λ areas. areas ≡ image_areas_of image.now.segments) }
+{
+    let mut areas = load_areas(alloc, image.segments())?;
+    let stack = Vpn(STACK_START / PAGE_BYTES);
+    let pages = (STACK_END - STACK_START) / PAGE_BYTES;
+    match areas.put(stack, pages, Flags::union(Perms::READ, Perms::WRITE)) {
+        Ok(()) => Ok(areas),
+        Err(_) => Err(NoMemory),
+    }
+}
+
+// The pages of the loads.
+fn load_areas(alloc: Global, segments: &[Segment]) -> Result<Areas, NoMemory>
+    requires { All IsBoundedSegment segments.now }
+    ensures { IfOk result (λ areas. areas ≡ areas_of segments.now []) }
+{
+    let mut areas = Areas::new(alloc)?;
+    for segment in segments {
+        map_pages(&mut areas, segment)?;
+    }
+    Ok(areas)
+}
+
+// The pages that one load meets.
+fn map_pages(areas: &mut Areas, segment: &Segment) -> Result<(), NoMemory>
+    requires { IsBoundedSegment segment.now }
+    ensures { OnOk result (areas.new ≡ areas_of (segment.now ∷ []) areas.old) }
+{
+    let first = segment.vaddr / PAGE_BYTES;
+    let count = (segment.vaddr + segment.memsz - 1) / PAGE_BYTES + 1 - first;
+    add_pages(areas, first, count, segment.perms)
+}
+
+// So many pages from a page on, with these permissions beside those that they have.
+fn add_pages(areas: &mut Areas, first: u64, count: u64, perms: Perms) -> Result<(), NoMemory>
+    requires { first + count ≤ 2 ^ 26 }
+    ensures { OnOk result (areas.new ≡ with_pages first count perms areas.old) }
+{
+    for page in 0..count {
+        let vpn = Vpn(first + page);
+        let all = with_more(areas.perms_at(vpn), perms);
+        match areas.put(vpn, 1, all) {
+            Ok(()) => {}
+            Err(_) => return Err(NoMemory),
+        }
+    }
+    Ok(())
+}
+
+// The permissions of a page together with more.
+fn with_more(perms: Option<Perms>, more: Perms) -> Perms
+    ensures { result ≡ union perms more }
+{
+    match perms {
+        Some(perms) => Flags::union(perms, more),
+        None => more,
+    }
+}
