@@ -1,5 +1,6 @@
 pub mod Mapping
 pub mod Adding
 pub mod Strings
+pub mod Few
 pub mod LowestPlace
 mod Rows

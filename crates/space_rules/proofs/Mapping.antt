@@ -13,20 +13,20 @@ use Rattle.elf_image.specs.Image.{IsBoundedSegment}
 use Rattle.space_rules.specs.Mapped.{union, with_pages, first_page, page_count, areas_of, meets, perms_of_loads, read_write, stack_page, stack_pages, image_areas_of}
 
 -- whether a page is one of so many from a page on
-abbrev within : ℕ → ℕ → ℕ → Bool
+abbrev pub within : ℕ → ℕ → ℕ → Bool
 within first pages page = nat_le first page && nat_lt page (first + pages)
 
 -- what runs say of a page once so many pages have more permissions
 abbrev Adds : ℕ → ℕ → Perms → List Area → List Area → Type 0
 Adds first pages perms runs new = (page : ℕ) → perms_of new page ≡ cond (within first pages page) (Some (union (perms_of runs page) perms)) (perms_of runs page)
 
-is_within : (first pages page : ℕ) → first ≤ page → page < first + pages → within first pages page ≡ true
+pub is_within : (first pages page : ℕ) → first ≤ page → page < first + pages → within first pages page ≡ true
 is_within first pages page low high = λ i. le-leb first page low i && lt-ltb page (first + pages) high i
 
-is_below : (first pages page : ℕ) → page < first → within first pages page ≡ false
+pub is_below : (first pages page : ℕ) → page < first → within first pages page ≡ false
 is_below first pages page less = λ i. lt-leb first page less i && nat_lt page (first + pages)
 
-is_behind : (first pages page : ℕ) → first ≤ page → first + pages ≤ page → within first pages page ≡ false
+pub is_behind : (first pages page : ℕ) → first ≤ page → first + pages ≤ page → within first pages page ≡ false
 is_behind first pages page low behind = λ i. le-leb first page low i && le-ltb page (first + pages) behind i
 
 -- a choice by a test that is known
@@ -76,7 +76,7 @@ pages_add first (suc pages) perms runs fits c =
     here page (inr le) (inr same) = let e : first ≡ page = omega arith in ap (λ (p : ℕ). cond (within first 1 page) (Some (union (perms_of runs p) perms)) (perms_of runs page)) e
 
 -- the pages of a load are those that it meets
-load_meets : (s : Segment) (page : ℕ) → IsBoundedSegment s → within (first_page s) (page_count s) page ≡ meets s page
+pub load_meets : (s : Segment) (page : ℕ) → IsBoundedSegment s → within (first_page s) (page_count s) page ≡ meets s page
 load_meets s page bounds = by (cases_lt page (s.vaddr / 4096)) (cases_lt page (s.vaddr / 4096 + page_count s))
   where
     by : ((page < s.vaddr / 4096) ⊎ (s.vaddr / 4096 ≤ page)) → ((page < s.vaddr / 4096 + page_count s) ⊎ (s.vaddr / 4096 + page_count s ≤ page)) → within (first_page s) (page_count s) page ≡ meets s page
@@ -94,7 +94,7 @@ load_meets s page bounds = by (cases_lt page (s.vaddr / 4096)) (cases_lt page (s
         let after : s.vaddr + s.memsz ≤ page * 4096 = omega arith in
         is_behind (first_page s) (page_count s) page le behind ∙ sym (λ i. lt-ltb s.vaddr ((page + 1) * 4096) near i && le-ltb (page * 4096) (s.vaddr + s.memsz) after i)
 
-loads_map : (segments : List Segment) (runs : List Area) → AllByRecursion IsBoundedSegment segments → IsCanonical runs → IsCanonical (areas_of segments runs) × ((page : ℕ) → perms_of (areas_of segments runs) page ≡ perms_of_loads segments (perms_of runs page) page)
+pub loads_map : (segments : List Segment) (runs : List Area) → AllByRecursion IsBoundedSegment segments → IsCanonical runs → IsCanonical (areas_of segments runs) × ((page : ℕ) → perms_of (areas_of segments runs) page ≡ perms_of_loads segments (perms_of runs page) page)
 loads_map [] runs all c = (c, λ page. refl)
 loads_map (s ∷ segments) runs all c =
     let some : 0 < s.memsz = all.0.some in

@@ -1,13 +1,11 @@
 -- How many strings and words there are, where they stand, and what bytes they make.
-use Rattle.std.proofs.Common.{◌≡◌, ℕ, zero, suc, ◌+◌, ◌-◌, ◌*◌, ◌/◌, ◌%◌, ◌<◌, ◌≤◌, ◌⊎◌, inl, inr, Bool, true, false, ◌||◌, refl, sym, ◌∙◌, ap, subst, List, [], ◌∷◌, ◌++◌, length, replicate, arith}
-use Rattle.std.specs.Prelude.{flat_map, nat_lt}
-use Rattle.std.proofs.lemmas.Bool.{cases_lt, lt-ltb}
+use Rattle.std.proofs.Common.{◌≡◌, ℕ, suc, ◌+◌, ◌-◌, ◌*◌, ◌/◌, ◌%◌, ◌≤◌, false, refl, sym, ◌∙◌, ap, List, [], ◌∷◌, ◌++◌, length, replicate, arith}
+use Rattle.std.specs.Prelude.{flat_map}
 use Rattle.std.proofs.lemmas.List.{length-append, length-replicate, append_assoc}
 use Rattle.std.proofs.lemmas.List.Concat.{flat_map-append}
 use Rattle.lego_base.specs.Space.{bytes_of}
 use Rattle.space_rules.specs.Start.{closed, closed_all, strings_of, is_too_big, strings_start, env_start, addresses, auxiliary_vector, words_of, word_count, sp_of, gap_of, stack_bytes}
-use Rattle.space_rules.specs.Standing.{IsWithinStack, IsStack, IsLayout}
-use Rattle.space_rules.specs.declared.stack.Layout.{Layout}
+use Rattle.space_rules.specs.Standing.{IsWithinStack, IsLayout}
 
 -- the bytes of all strings
 strings_size : (args env : List (List ℕ)) → length (strings_of args env) ≡ length (closed_all args) + length (closed_all env)

@@ -1,5 +1,5 @@
 -- The pages that a process begins with: those of the loads of its image, and the stack.
-use Rattle.std.specs.Prelude.{◌≡◌, ℕ, zero, suc, ◌+◌, ◌-◌, ◌*◌, ◌/◌, bit_or, Bool, ◌&&◌, nat_lt, if◌then◌else◌, List, [], ◌∷◌, Option, Some, None}
+use Rattle.std.specs.Prelude.{◌≡◌, ℕ, zero, suc, ◌+◌, ◌-◌, ◌*◌, ◌/◌, ◌≤◌, bit_or, Bool, ◌&&◌, nat_lt, if◌then◌else◌, List, [], ◌∷◌, length, Option, Some, None}
 use Rattle.std.specs.List.{AllByRecursion}
 use Rattle.lego_base.specs.declared.perms.Perms.{Perms}
 use Rattle.lego_base.specs.declared.records.Area.{Area}
@@ -64,3 +64,7 @@ BootMapsTheLoads = (segments : List Segment) → AllByRecursion IsBoundedSegment
 -- with no other page.
 abbrev pub ImageMapsLoadsAndStack : Type 0
 ImageMapsLoadsAndStack = (segments : List Segment) → AllByRecursion IsBoundedSegment segments → IsCanonical (image_areas_of segments) × ((page : ℕ) → perms_of (image_areas_of segments) page ≡ in_range stack_page stack_pages page (Some read_write) (perms_of_loads segments None page))
+
+-- It begins with few runs: each begins with a load or the stack, or behind one.
+abbrev pub ImageHasFewRuns : Type 0
+ImageHasFewRuns = (segments : List Segment) → AllByRecursion IsBoundedSegment segments → length (image_areas_of segments) ≤ length segments + length segments + 2

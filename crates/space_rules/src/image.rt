@@ -1,6 +1,7 @@
-ghost use Rattle.std.specs.Prelude.{◌≡◌, ◌+◌, ◌≤◌, ◌^◌, [], ◌∷◌, All, IfOk, OnOk};
+ghost use Rattle.std.specs.Prelude.{◌≡◌, ℕ, ◌+◌, ◌≤◌, ◌^◌, [], ◌∷◌, length, All, IfOk};
+ghost use Rattle.area_list.specs.declared.TheConstants.{MOST_RUNS};
 ghost use Rattle.elf_image.specs.Image.{IsBoundedSegment};
-ghost use Rattle.space_rules.specs.Mapped.{union, with_pages, areas_of, image_areas_of};
+ghost use Rattle.space_rules.specs.Mapped.{union, with_pages, first_page, page_count, areas_of, image_areas_of};
 
 use crate::{STACK_END, STACK_START};
 use area_list::Areas;
@@ -19,46 +20,48 @@ pub fn image_areas(alloc: Global, image: &Image) -> Result<Areas, NoMemory>
     let pages = (STACK_END - STACK_START) / PAGE_BYTES;
     match areas.put(stack, pages, Flags::union(Perms::READ, Perms::WRITE)) {
         Ok(()) => Ok(areas),
-        Err(_) => Err(NoMemory),
+        Err(_) => unreachable!(), // 64 loads and the stack make 130 runs at most
     }
 }
 
 // The pages of the loads.
 fn load_areas(alloc: Global, segments: &[Segment]) -> Result<Areas, NoMemory>
-    requires { All IsBoundedSegment segments.now }
+    requires bounded { All IsBoundedSegment segments.now }
+    requires few { length segments.now ≤ 64 }
     ensures { IfOk result (λ areas. areas ≡ areas_of segments.now []) }
 {
     let mut areas = Areas::new(alloc)?;
     for segment in segments {
-        map_pages(&mut areas, segment)?;
+        map_pages(&mut areas, segment);
     }
     Ok(areas)
 }
 
 // The pages that one load meets.
-fn map_pages(areas: &mut Areas, segment: &Segment) -> Result<(), NoMemory>
-    requires { IsBoundedSegment segment.now }
-    ensures { OnOk result (areas.new ≡ areas_of (segment.now ∷ []) areas.old) }
+fn map_pages(areas: &mut Areas, segment: &Segment)
+    requires bounded { IsBoundedSegment segment.now }
+    requires few { (pages : ℕ) → pages ≤ page_count segment.now → length (with_pages (first_page segment.now) pages segment.now.perms areas.old) ≤ MOST_RUNS }
+    ensures { areas.new ≡ areas_of (segment.now ∷ []) areas.old }
 {
     let first = segment.vaddr / PAGE_BYTES;
     let count = (segment.vaddr + segment.memsz - 1) / PAGE_BYTES + 1 - first;
-    add_pages(areas, first, count, segment.perms)
+    add_pages(areas, first, count, segment.perms);
 }
 
 // So many pages from a page on, with these permissions beside those that they have.
-fn add_pages(areas: &mut Areas, first: u64, count: u64, perms: Perms) -> Result<(), NoMemory>
-    requires { first + count ≤ 2 ^ 26 }
-    ensures { OnOk result (areas.new ≡ with_pages first count perms areas.old) }
+fn add_pages(areas: &mut Areas, first: u64, count: u64, perms: Perms)
+    requires ends { first + count ≤ 2 ^ 26 }
+    requires few { (pages : ℕ) → pages ≤ count → length (with_pages first pages perms areas.old) ≤ MOST_RUNS }
+    ensures { areas.new ≡ with_pages first count perms areas.old }
 {
     for page in 0..count {
         let vpn = Vpn(first + page);
         let all = with_more(areas.perms_at(vpn), perms);
         match areas.put(vpn, 1, all) {
             Ok(()) => {}
-            Err(_) => return Err(NoMemory),
+            Err(_) => unreachable!(),
         }
     }
-    Ok(())
 }
 
 // The permissions of a page together with more.

@@ -1,4 +1,4 @@
-ghost use Rattle.space_rules.specs.Mapped.{BootMapsTheLoads, ImageMapsLoadsAndStack};
+ghost use Rattle.space_rules.specs.Mapped.{BootMapsTheLoads, ImageMapsLoadsAndStack, ImageHasFewRuns};
 ghost use Rattle.space_rules.specs.Place.{PlaceIsLowest};
 ghost use Rattle.space_rules.specs.Standing.{StackIsWithin};
 
@@ -12,6 +12,11 @@ pub fn boot_maps_the_loads()
 /// and to write.
 pub fn image_maps_loads_and_stack()
     ensures { ImageMapsLoadsAndStack }
+{}
+
+/// A process begins with at most two runs for each load and two more.
+pub fn image_has_few_runs()
+    ensures { ImageHasFewRuns }
 {}
 
 /// The place of a mapping is the lowest page address, among those for mappings, from which all bytes of

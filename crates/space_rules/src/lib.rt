@@ -1,5 +1,10 @@
-//! The rules by which a process gets its address space: which pages it begins with, what stands on its stack at the
-//! entry, and where a mapping goes whose caller names no address.
+//! The rules by which a process gets its address space: which pages it begins with, what stands on its stack
+//! at the entry, and where a mapping goes whose caller names no address.
+//!
+//! The pages are `image_areas_of` of `specs/Mapped`, the stack is `sp_of` and `stack_bytes` of `specs/Start`
+//! (the System V ABI's process initialization), the place is `place_of` of `specs/Place`. [`image_areas`],
+//! [`stack_image`] and [`place`] give exactly these. That the definitions say what their names say, page by
+//! page and address by address, is promised in `laws`.
 #![tactic(auto)]
 
 mod image; // the pages that a process begins with
@@ -10,7 +15,10 @@ mod stack; // the stack at a program's entry
 mod tests;
 
 pub use image::image_areas;
-pub use laws::{boot_maps_the_loads, image_maps_loads_and_stack, place_is_lowest, stack_is_within};
+pub use laws::{
+    boot_maps_the_loads, image_has_few_runs, image_maps_loads_and_stack, place_is_lowest,
+    stack_is_within,
+};
 pub use placing::place;
 pub use stack::{StackFault, StackImage, stack_image};
 

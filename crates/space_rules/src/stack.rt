@@ -177,7 +177,7 @@ fn push_strings(bytes: &mut Vec<u8>, strings: &[Bytes]) -> Result<(), NoMemory>
 {
     for string in strings {
         bytes.extend_from_slice(string.as_slice())?;
-        bytes.push(0)?;
+        bytes.push(0)?; // closes the string
     }
     Ok(())
 }

@@ -1,7 +1,7 @@
-use Rattle.std.proofs.Common.{◌≡◌, [], drop}
+use Rattle.std.proofs.Common.{◌≡◌, [], take}
 use Rattle.space_rules.specs.Mapped.{areas_of}
 use Rattle.space_rules.proofs.image.load_areas.Given as goal
 
--- the areas so far with the loads that are left make the areas of all
+-- the areas are those of the loads so far
 abbrev pub invariant-loop-segment : goal.invariant-loop-segment
-invariant-loop-segment l = areas_of (drop l.segment-index l.segments) l.areas ≡ areas_of l.segments []
+invariant-loop-segment l = l.areas ≡ areas_of (take l.segment-index l.segments) []

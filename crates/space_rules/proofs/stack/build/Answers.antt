@@ -1,5 +1,5 @@
 use Rattle.space_rules.proofs.Strings.{stack_is, stack_within, written}
-use Rattle.std.proofs.Common.{◌≡◌, ◌++◌, ◌∙◌, sym, ap, subst, List, ℕ, rules}
+use Rattle.std.proofs.Common.{◌≡◌, ◌++◌, ◌∙◌, sym, ap, subst, List, ℕ}
 use Rattle.std.specs.Prelude.{flat_map}
 use Rattle.lego_base.specs.Space.{bytes_of}
 use Rattle.space_rules.specs.Start.{sp_of, stack_bytes}
