@@ -1,0 +1,5 @@
+pub mod Sorting
+pub mod ByName
+pub mod Appended
+pub mod Names
+mod Rows
