@@ -8,15 +8,15 @@ use Rattle.space_rules.specs.Start.{closed, closed_all, strings_of, is_too_big, 
 use Rattle.space_rules.specs.Standing.{IsWithinStack, IsLayout}
 
 -- the bytes of all strings
-strings_size : (args env : List (List ℕ)) → length (strings_of args env) ≡ length (closed_all args) + length (closed_all env)
+pub strings_size : (args env : List (List ℕ)) → length (strings_of args env) ≡ length (closed_all args) + length (closed_all env)
 strings_size args env = ap (λ (b : List ℕ). length b) (flat_map-append closed args env) ∙ length-append (closed_all args) (closed_all env)
 
-length_addresses : (from : ℕ) (strings : List (List ℕ)) → length (addresses from strings) ≡ length strings
+pub length_addresses : (from : ℕ) (strings : List (List ℕ)) → length (addresses from strings) ≡ length strings
 length_addresses from [] = refl
 length_addresses from (string ∷ strings) = ap suc (length_addresses (from + length (closed string)) strings)
 
 -- argc, a word for each string, two zeros and the auxiliary vector
-words_are : (args env : List (List ℕ)) (entry : ℕ) → length (words_of args env entry) ≡ length args + length env + 9
+pub words_are : (args env : List (List ℕ)) (entry : ℕ) → length (words_of args env entry) ≡ length args + length env + 9
 words_are args env entry =
     let first = length args ∷ addresses (strings_start args env) args in
     let second = 0 ∷ addresses (env_start args env) env in
@@ -26,12 +26,12 @@ words_are args env entry =
     let two : length (words_of args env entry) ≡ length (first ++ second) + 7 = length-append (first ++ second) (0 ∷ auxiliary_vector entry) in
     omega arith
 
-words_size : (words : List ℕ) → length (flat_map (bytes_of 8) words) ≡ 8 * length words
+pub words_size : (words : List ℕ) → length (flat_map (bytes_of 8) words) ≡ 8 * length words
 words_size [] = refl
 words_size (word ∷ words) = let rest : length (flat_map (bytes_of 8) words) ≡ 8 * length words = words_size words in omega arith
 
 -- what isn't too big
-few_strings : (args env : List (List ℕ)) → is_too_big args env ≡ false → (length args + length env ≤ 512) × (length (strings_of args env) ≤ 65536)
+pub few_strings : (args env : List (List ℕ)) → is_too_big args env ≡ false → (length args + length env ≤ 512) × (length (strings_of args env) ≤ 65536)
 few_strings args env h = grind arith
 
 -- so many bytes of strings and so many words, in numbers

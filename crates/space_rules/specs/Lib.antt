@@ -1,4 +1,5 @@
 pub mod Start
 pub mod Standing
+pub mod Told
 pub mod Mapped
 pub mod Place

@@ -1,6 +1,7 @@
 ghost use Rattle.space_rules.specs.Mapped.{BootMapsTheLoads, ImageMapsLoadsAndStack, ImageHasFewRuns};
 ghost use Rattle.space_rules.specs.Place.{PlaceIsLowest};
 ghost use Rattle.space_rules.specs.Standing.{StackIsWithin};
+ghost use Rattle.space_rules.specs.Told.{StackTellsAll};
 
 /// Booting maps each page that a load meets with the union of the permissions of the loads that meet it,
 /// and no other page.
@@ -28,4 +29,10 @@ pub fn place_is_lowest()
 /// Strings that aren't too big have their stack within its pages, up to its end, from a multiple of 16.
 pub fn stack_is_within()
     ensures { StackIsWithin }
+{}
+
+/// A program that reads its stack finds how many arguments it has, each argument and each string of the
+/// environment at the address that its word tells, and the auxiliary vector.
+pub fn stack_tells_all()
+    ensures { StackTellsAll }
 {}

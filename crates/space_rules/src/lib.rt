@@ -17,7 +17,7 @@ mod tests;
 pub use image::image_areas;
 pub use laws::{
     boot_maps_the_loads, image_has_few_runs, image_maps_loads_and_stack, place_is_lowest,
-    stack_is_within,
+    stack_is_within, stack_tells_all,
 };
 pub use placing::place;
 pub use stack::{StackFault, StackImage, stack_image};
