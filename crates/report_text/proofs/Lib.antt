@@ -1,5 +1,6 @@
 pub mod Sorting
 pub mod ByName
 pub mod Appended
+pub mod Telling
 pub mod Names
 mod Rows

@@ -1,5 +1,5 @@
 -- The archive of a run's files. Numbers stand with their lowest byte first.
-use Rattle.std.specs.Prelude.{◌≡◌, ◌≢◌, ℕ, if◌then◌else◌, List, [], ◌∷◌, ◌++◌, length, flat_map, codes, AllPairs, IsPermutation, IsSortedByKey}
+use Rattle.std.specs.Prelude.{◌≡◌, ◌≢◌, ◌≤◌, ◌<◌, ◌^◌, All, ℕ, if◌then◌else◌, List, [], ◌∷◌, ◌++◌, length, flat_map, codes, AllPairs, IsPermutation, IsSortedByKey}
 use Rattle.std.specs.declared.cmp.Ordering.{Ordering}
 use Rattle.std.specs.Ordering.{nat_cmp, is_gt}
 use Rattle.std.specs.Cmp.Lexicographic.{slice_cmp}
@@ -39,3 +39,13 @@ ByNameSorts = (files : List FileOut) → IsPermutation files (by_name files) × 
 -- The archive doesn't depend on the order in which the files are given.
 abbrev pub OrderIsFree : Type 0
 OrderIsFree = (files others : List FileOut) → NamesDiffer files → IsPermutation files others → archive_of others ≡ archive_of files
+
+-- files that an archive can hold: it has room for the lengths of their names, their sizes and their count
+pub record CanBeArchived (files : List FileOut) : Type 0 where
+  pub names : All (λ file. length file.name ≤ 65535) files
+  pub sizes : All (λ file. length file.bytes < 2 ^ 64) files
+  pub few : length files < 2 ^ 32
+
+-- An archive tells its files: it is the archive of no others.
+abbrev pub ArchiveTellsFiles : Type 0
+ArchiveTellsFiles = (files others : List FileOut) → CanBeArchived files → CanBeArchived others → archive_of files ≡ archive_of others → by_name files ≡ by_name others

@@ -1,4 +1,4 @@
-ghost use Rattle.report_text.specs.Archive.{ByNameSorts, OrderIsFree};
+ghost use Rattle.report_text.specs.Archive.{ByNameSorts, OrderIsFree, ArchiveTellsFiles};
 
 /// Files by name are the same files, in rising order of names.
 pub fn by_name_sorts()
@@ -8,4 +8,9 @@ pub fn by_name_sorts()
 /// The archive doesn't depend on the order in which the files are given.
 pub fn order_is_free()
     ensures { OrderIsFree }
+{}
+
+/// An archive tells its files: by name, it is the archive of no others.
+pub fn archive_tells_files()
+    ensures { ArchiveTellsFiles }
 {}

@@ -2,7 +2,8 @@
 //!
 //! [`report`] gives exactly `report_of` of `specs/Report`, a line for each thing that it tells; [`archive`]
 //! gives exactly `archive_of` of `specs/Archive`, the files by name whatever their order was. What that
-//! order is, and that the archive doesn't depend on the order given, is promised in `laws`.
+//! order is, that the archive doesn't depend on the order given, and that it tells its files, is promised
+//! in `laws`.
 #![tactic(auto)]
 
 mod archive_bytes; // the archive
@@ -12,5 +13,5 @@ mod report_lines; // the report
 mod tests;
 
 pub use archive_bytes::archive;
-pub use laws::{by_name_sorts, order_is_free};
+pub use laws::{archive_tells_files, by_name_sorts, order_is_free};
 pub use report_lines::report;
