@@ -5,8 +5,10 @@ use Rattle.std.specs.Borrow.{Bor}
 use Rattle.std.specs.Slice.{IsItemAt}
 use Rattle.lego_base.specs.declared.stops.MemStop.{MemStop}
 use Rattle.lego_base.specs.declared.stops.MemStop.TheVariants.{Segv, Halt}
-use Rattle.lego_base.specs.Space.{Space, no_space, with_space, permits}
+use Rattle.lego_base.specs.Space.{Space, no_space, with_space, with_bytes, permits}
 use Rattle.rv64_step.specs.Access.{Keeps}
+use Rattle.rv64_step.proofs.Writes.{with_space-same}
+use Rattle.flat_memory.specs.Access.{CopiedTo, CopiedOut}
 use Rattle.flat_memory.specs.declared.space.FlatSpace.{FlatSpace}
 use Rattle.flat_memory.specs.Spaces.{space_of, space_at}
 
@@ -49,6 +51,18 @@ set-at spaces pid space h q = elim (cases_eq q pid) [
 
 pub at-set : (spaces : List FlatSpace) (pid : ℕ) (space : FlatSpace) → pid < length spaces → space_at (set spaces pid space) ≡ with_space (space_at spaces) pid (space_of space)
 at-set spaces pid space h = λ i q. set-at spaces pid space h q i
+
+-- a copy to one of them
+pub copied-to : (spaces : List FlatSpace) (pid : ℕ) (old new : FlatSpace) (address : ℕ) (bytes : List ℕ) (result : Result (Unit {0}) MemStop) → pid < length spaces → space_at spaces pid ≡ space_of old → CopiedOut (space_of old) (space_of new) address bytes result → CopiedTo (space_at spaces) (space_at (set spaces pid new)) pid address bytes result
+copied-to spaces pid old new address bytes (Ok done) h e copied = (
+  ap (λ (space : Space). permits space 2 address (length bytes)) e ∙ copied.0,
+  at-set spaces pid new h ∙ ap (with_space (space_at spaces) pid) (copied.1 ∙ ap (λ (space : Space). with_bytes space address bytes) (sym e)),
+)
+copied-to spaces pid old new address bytes (Err Segv) h e copied = (
+  ap (λ (space : Space). permits space 2 address (length bytes)) e ∙ copied.0,
+  at-set spaces pid new h ∙ ap (with_space (space_at spaces) pid) (copied.1 ∙ sym e) ∙ with_space-same (space_at spaces) pid,
+)
+copied-to spaces pid old new address bytes (Err (Halt halt)) h e copied = copied
 
 -- a space of nothing behind them
 push-at : (spaces : List FlatSpace) (space : FlatSpace) → space_of space ≡ no_space → (q : ℕ) → space_at (spaces ++ space ∷ []) q ≡ space_at spaces q

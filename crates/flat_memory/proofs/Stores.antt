@@ -5,6 +5,7 @@ use Rattle.std.proofs.lemmas.Bool.{cases_lt, cond-true, cond-false, le-leb, lt-l
 use Rattle.std.proofs.lemmas.List.{places, length-append, length-take-le, take-take, take-append-drop, drop-take, get_or_append_left, get_or-append_right}
 use borrow.Rule.Slice.PartMut.{put_mid}
 use Rattle.lego_base.specs.Space.{Space, with_bytes, bytes_of}
+use Rattle.rv64_step.proofs.Writes.{with_bytes-append}
 use Rattle.flat_memory.specs.Frames.{Written}
 
 -- what a write to a part leaves
@@ -43,50 +44,6 @@ written-part xs at len m k value ys h l j y =
     let n : length (bytes_of len value) ≡ k = length-bytes_of len value ∙ l ∙ sym j in
     let e : ys ≡ bytes_of len value = y ∙ ap (λ q. bytes_of q value) (sym l) in
     subst (λ zs. Written xs at (bytes_of len value) (put_mid at k xs zs)) (sym e) (written-mid xs at k (bytes_of len value) (omega arith) n)
-
--- ---- writing twice, one behind the other
--- a byte within what is written, and one outside
-in-bytes : (address a n new old : ℕ) → address ≤ a → a < address + n → cond (leb address a && ltb a (address + n)) new old ≡ new
-in-bytes address a n new old low high =
-    cond-true (leb address a && ltb a (address + n)) new old (and_from (leb address a) (ltb a (address + n)) (le-leb address a low) (lt-ltb a (address + n) high))
-
-below-bytes : (address a n new old : ℕ) → a < address → cond (leb address a && ltb a (address + n)) new old ≡ old
-below-bytes address a n new old low =
-    cond-false (leb address a && ltb a (address + n)) new old (and_left (leb address a) (ltb a (address + n)) (lt-leb address a low))
-
-above-bytes : (address a n new old : ℕ) → address + n ≤ a → cond (leb address a && ltb a (address + n)) new old ≡ old
-above-bytes address a n new old high =
-    cond-false (leb address a && ltb a (address + n)) new old (and_right (leb address a) (ltb a (address + n)) (le-ltb a (address + n) high))
-
-append-at : (address : ℕ) (xs ys : List ℕ) (a old : ℕ) → cond (leb (address + length xs) a && ltb a (address + length xs + length ys)) (get_or ys (a - (address + length xs)) 0) (cond (leb address a && ltb a (address + length xs)) (get_or xs (a - address) 0) old) ≡ cond (leb address a && ltb a (address + length (xs ++ ys))) (get_or (xs ++ ys) (a - address) 0) old
-append-at address xs ys a old =
-    let n : length (xs ++ ys) ≡ length xs + length ys = length-append xs ys in
-    let first = cond (leb address a && ltb a (address + length xs)) (get_or xs (a - address) 0) old in
-    elim (cases_lt a address) [
-      | inl low ↦
-          below-bytes (address + length xs) a (length ys) _ first (omega arith)
-          ∙ below-bytes address a (length xs) _ old low
-          ∙ sym (below-bytes address a (length (xs ++ ys)) _ old low)
-      | inr low ↦ elim (cases_lt a (address + length xs)) [
-        | inl middle ↦
-            below-bytes (address + length xs) a (length ys) _ first middle
-            ∙ in-bytes address a (length xs) _ old low middle
-            ∙ sym (in-bytes address a (length (xs ++ ys)) _ old low (omega arith) ∙ get_or_append_left xs ys 0 (a - address) (omega arith))
-        | inr middle ↦ elim (cases_lt a (address + length xs + length ys)) [
-          | inl high ↦
-              let rest : a - address - length xs ≡ a - (address + length xs) = omega arith in
-              in-bytes (address + length xs) a (length ys) _ first middle high
-              ∙ sym (in-bytes address a (length (xs ++ ys)) _ old low (omega arith) ∙ get_or-append_right xs ys (length xs) (a - address) 0 refl (omega arith) ∙ ap (λ k. get_or ys k 0) rest)
-          | inr high ↦
-              above-bytes (address + length xs) a (length ys) _ first high
-              ∙ above-bytes address a (length xs) _ old middle
-              ∙ sym (above-bytes address a (length (xs ++ ys)) _ old (omega arith))
-        ]
-      ]
-    ]
-
-pub with_bytes-append : (space : Space) (address : ℕ) (xs ys : List ℕ) → with_bytes (with_bytes space address xs) (address + length xs) ys ≡ with_bytes space address (xs ++ ys)
-with_bytes-append space address xs ys = λ i. record { areas = space.areas; byte = λ a. append-at address xs ys a (space.byte a) i }
 
 -- the next bytes of a list behind its first ones
 pub fill-more : (space : Space) (address done more : ℕ) (bytes : List ℕ) → done ≤ length bytes → with_bytes (with_bytes space address (take done bytes)) (address + done) (take more (drop done bytes)) ≡ with_bytes space address (take (done + more) bytes)

@@ -1,15 +1,28 @@
 -- What calls of a flat memory say.
-use Rattle.std.specs.Prelude.{◌≡◌, ◌^◌, ◌<◌, ℕ, Bool, true, false, List, Option, Some, None, Result, Ok, Err}
+use Rattle.std.specs.Prelude.{◌≡◌, ◌^◌, ◌<◌, ℕ, Bool, true, false, List, length, Option, Some, None, Result, Ok, Err}
 use Rattle.lego_base.specs.declared.stops.MemStop.{MemStop}
 use Rattle.lego_base.specs.declared.stops.MemStop.TheVariants.{Segv, Halt}
 use Rattle.lego_base.specs.declared.stops.Halt.TheVariants.{NoMemory}
-use Rattle.lego_base.specs.Space.{Space, permits, bytes_at, number_of, bytes_of, with_bytes}
+use Rattle.lego_base.specs.Space.{Space, permits, bytes_at, number_of, bytes_of, with_bytes, with_space}
 
 -- a copy of n bytes: they are there where each may be read, and Segv comes exactly where one may not
 abbrev pub Copied : Space → ℕ → ℕ → Result (List ℕ) MemStop → Type 0
 Copied space address n (Ok bytes) = (permits space 1 address n ≡ true) × (bytes ≡ bytes_at space address n)
 Copied space address n (Err Segv) = permits space 1 address n ≡ false
 Copied space address n (Err (Halt halt)) = halt ≡ NoMemory
+
+-- a copy of bytes to a process's space: they are written where each may be, and Segv comes exactly where one may not;
+-- then nothing changes
+abbrev pub CopiedTo : (ℕ → Space) → (ℕ → Space) → ℕ → ℕ → List ℕ → Result (Unit {0}) MemStop → Type 0
+CopiedTo old new pid address bytes (Ok done) = (permits (old pid) 2 address (length bytes) ≡ true) × (new ≡ with_space old pid (with_bytes (old pid) address bytes))
+CopiedTo old new pid address bytes (Err Segv) = (permits (old pid) 2 address (length bytes) ≡ false) × (new ≡ old)
+CopiedTo old new pid address bytes (Err (Halt halt)) = halt ≡ NoMemory
+
+-- the same in one space
+abbrev pub CopiedOut : Space → Space → ℕ → List ℕ → Result (Unit {0}) MemStop → Type 0
+CopiedOut old new address bytes (Ok done) = (permits old 2 address (length bytes) ≡ true) × (new ≡ with_bytes old address bytes)
+CopiedOut old new address bytes (Err Segv) = (permits old 2 address (length bytes) ≡ false) × (new ≡ old)
+CopiedOut old new address bytes (Err (Halt halt)) = halt ≡ NoMemory
 
 -- a read of n bytes: the number that is there where each may be used, nothing where one may not
 abbrev pub IsRead : Space → ℕ → ℕ → ℕ → Option ℕ → Type 0

@@ -1,6 +1,6 @@
 ghost use Rattle.std.specs.Prelude.{◌≡◌, MatchOption, ◌+◌, ◌<◌, ◌≤◌, ◌^◌, length, vec_len, OnOk, IfOk, true, false, Result, Ok, Err};
 ghost use Rattle.lego_base.specs.Space.{no_space};
-ghost use Rattle.flat_memory.specs.Access.{Copied};
+ghost use Rattle.flat_memory.specs.Access.{Copied, CopiedTo};
 
 use crate::space::FlatSpace;
 use area_list::Areas;
@@ -61,6 +61,24 @@ impl FlatMemory {
             return no_bytes(alloc, len);
         };
         space.copy(alloc, addr, len)
+    }
+
+    /// Writes bytes at an address, where each of them may be written.
+    pub fn copy_out(&mut self, pid: Pid, addr: u64, bytes: &[u8]) -> Result<(), MemStop>
+        ensures { CopiedTo (spaces_of self.old) (spaces_of self.new) pid.0 addr bytes.now result }
+    {
+        if bytes.is_empty() {
+            return Ok(());
+        }
+        let index = pid.0 as usize;
+        if index >= self.spaces.len() {
+            return Err(MemStop::Segv);
+        }
+        let space = &mut self.spaces[index];
+        match space.copy_out(addr, bytes) {
+            Ok(()) => Ok(()),
+            Err(stop) => Err(stop),
+        }
     }
 
     // The space of a pid.

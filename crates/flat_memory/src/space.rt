@@ -26,7 +26,7 @@ pub struct FlatSpace {
 impl FlatSpace {
     ghost use Rattle.lego_base.specs.Space.{permits, bytes_at, with_bytes};
     ghost use Rattle.rv64_step.specs.Access.{is_width, Reads, Writes, Changes};
-    ghost use Rattle.flat_memory.specs.Access.{Copied, IsRead, IsWrite};
+    ghost use Rattle.flat_memory.specs.Access.{Copied, CopiedOut, IsRead, IsWrite};
     ghost use Rattle.flat_memory.specs.Quick.{is_need};
     ghost use Rattle.flat_memory.specs.Spaces.{space_of};
 
@@ -242,6 +242,20 @@ impl FlatSpace {
         }
         match self.pages(alloc, addr, len as usize) {
             Ok(bytes) => Ok(bytes),
+            Err(_) => Err(MemStop::Halt(Halt::NoMemory)),
+        }
+    }
+
+    /// Writes bytes, at least one, where each of them may be written.
+    pub fn copy_out(&mut self, addr: u64, bytes: &[u8]) -> Result<(), MemStop>
+        requires { 0 < length bytes.now }
+        ensures { CopiedOut (space_of self.old) (space_of self.new) addr bytes.now result }
+    {
+        if !self.permits(2, addr, bytes.len() as u64) {
+            return Err(MemStop::Segv);
+        }
+        match self.fill(addr, bytes) {
+            Ok(()) => Ok(()),
             Err(_) => Err(MemStop::Halt(Halt::NoMemory)),
         }
     }

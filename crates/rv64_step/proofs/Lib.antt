@@ -1,3 +1,4 @@
 mod Corners
 pub mod Digits
 pub mod Products
+pub mod Writes
