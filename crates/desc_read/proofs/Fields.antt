@@ -1,5 +1,5 @@
 -- A field that is there and one that isn't, steps one after another, and what a fault says.
-use Rattle.std.proofs.Common.{◌≡◌, ℕ, ◌≤◌, Bool, true, false, not, ◌&&◌, cond, leb, List, [], ◌∷◌, map, length, Option, Some, None, Result, Ok, Err, refl, sym, ap, subst, ◌∙◌, arith}
+use Rattle.std.proofs.Common.{◌≡◌, ℕ, ◌≤◌, Bool, true, false, not, ◌&&◌, leb, List, [], ◌∷◌, map, length, Option, Some, None, Result, Ok, Err, refl, sym, ap, subst, arith}
 use Rattle.std.specs.Prelude.{if◌then◌else◌, IsErrAnd}
 use Rattle.std.specs.List.{list_any}
 use Rattle.std.proofs.lemmas.Bool.{leb-true}
@@ -12,7 +12,7 @@ use Rattle.desc_read.specs.declared.fault.DescKind.{DescKind}
 use Rattle.desc_read.specs.declared.fault.DescFault.{DescFault}
 use Rattle.desc_read.specs.declared.fault.DescFault.TheVariants.{Bad, NoMemory}
 use Rattle.desc_read.specs.declared.place.Entry.{Entry}
-use Rattle.desc_read.specs.Faults.{Refusal, refused, kind_of, field_place, Fails, Gives, IsFault}
+use Rattle.desc_read.specs.Faults.{Refusal, refused, field_place, Fails, Gives, IsFault}
 use Rattle.desc_read.specs.Checks.{is_within, of_kind, data_of, is_wrong_kind, is_out_of_range, values, all_of, list_of}
 use Rattle.desc_read.specs.Objects.{field, field_of, placed, default, ◌>>=◌}
 

@@ -4,3 +4,4 @@ pub mod Unknown
 pub mod Entries
 pub mod Whole
 mod Rows
+pub mod Limits

@@ -1,15 +1,13 @@
 -- Worked rows of the definition.
-use Rattle.std.proofs.Common.{◌≡◌, ℕ, [], ◌∷◌, List, Result, Ok, Err, codes, refl, negsuc}
+use Rattle.std.proofs.Common.{◌≡◌, ℕ, [], ◌∷◌, List, Ok, codes, refl, negsuc}
 use Rattle.std.specs.Fmt.{digits}
 use Rattle.std.specs.Int.Count.{ones}
-use Rattle.lego_base.specs.declared.ids.MemId.{MemId}
-use Rattle.desc_read.specs.declared.plan.Plan.{Plan}
 use Rattle.serde_json.specs.Data as json
 use Rattle.desc_read.specs.declared.fault.DescKind.TheVariants.{Object, Unknown, Absent, Kind, Range}
-use Rattle.desc_read.specs.Faults.{Refusal, refused}
+use Rattle.desc_read.specs.Faults.{refused}
 use Rattle.desc_read.specs.Checks.{number, text, list_of, list_up_to}
 use Rattle.desc_read.specs.Objects.{field, in_range, object}
-use Rattle.desc_read.specs.Plans.{memory, machine_of, crash_of, crashes_of, schedule_of, file_of, files_of, program_of, plan_of}
+use Rattle.desc_read.specs.Plans.{memory, machine_of, crash_of, crashes_of, schedule_of, files_of, program_of, plan_of}
 
 abbrev natural : ℕ → json.Data
 natural n = json.number (json.unsigned n)

@@ -1,5 +1,5 @@
 -- What is refused, and where.
-use Rattle.std.specs.Prelude.{◌≡◌, ℕ, ◌++◌, List, [], ◌∷◌, Option, Some, None, Result, Ok, Err, codes, decimal}
+use Rattle.std.specs.Prelude.{◌≡◌, ℕ, ◌++◌, List, Option, Some, None, Result, Ok, Err, codes, decimal}
 use Rattle.desc_read.specs.declared.fault.Flaw.{Flaw}
 use Rattle.desc_read.specs.declared.fault.Flaw.TheVariants.{WrongKind, OutOfRange}
 use Rattle.desc_read.specs.declared.fault.DescKind.{DescKind}

@@ -7,6 +7,7 @@
 #![tactic(auto)]
 
 mod fault; // what is refused, and why
+mod laws; // what holds of every plan
 mod machine; // the components and their sizes
 mod names; // fields that aren't known
 mod numbers; // fields that are numbers
@@ -19,6 +20,7 @@ mod schedule; // turns, deliveries and crashes
 mod texts; // fields that are texts
 
 pub use fault::{DescFault, DescKind};
+pub use laws::strings_are_few;
 pub use plan::{FileFrom, Plan};
 pub use reading::read_plan;
 

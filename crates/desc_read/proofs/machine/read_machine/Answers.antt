@@ -1,4 +1,4 @@
-use Rattle.std.proofs.Common.{◌≡◌, [], ◌∷◌, codes, lit≤, arith, refl}
+use Rattle.std.proofs.Common.{[], ◌∷◌, codes, lit≤, arith, refl}
 use Rattle.serde_json.specs.View.{view}
 use Rattle.desc_read.specs.Checks.{number}
 use Rattle.desc_read.specs.Plans.{machine_of}

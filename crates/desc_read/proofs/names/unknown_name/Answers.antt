@@ -1,6 +1,6 @@
-use Rattle.std.proofs.Common.{◌≡◌, map, true, false, List, ℕ, bytes_eq, refl, sym, ◌∙◌}
+use Rattle.std.proofs.Common.{◌≡◌, map, bytes_eq, sym, ◌∙◌}
 use Rattle.std.specs.List.{list_any}
-use Rattle.desc_read.proofs.Unknown.{unknown_in, unknown_is, any_map, unknown_found, unknown_later}
+use Rattle.desc_read.proofs.Unknown.{unknown_is, any_map, unknown_found, unknown_later}
 use Rattle.desc_read.proofs.names.unknown_name.Goals as goal
 
 pub returns-then-not-contains : goal.returns-then-not-contains

@@ -1,5 +1,5 @@
-use Rattle.std.proofs.Common.{◌≡◌, ℕ, List, [], ◌∷◌, ◌++◌, IfOk, codes, decimal, append_assoc, refl, sym, ap, subst, ◌∙◌}
-use Rattle.desc_read.specs.Faults.{list_name, field_place}
+use Rattle.std.proofs.Common.{◌≡◌, ℕ, List, ◌∷◌, ◌++◌, IfOk, codes, decimal, append_assoc, sym, ap, subst, ◌∙◌}
+use Rattle.desc_read.specs.Faults.{list_name}
 use Rattle.desc_read.proofs.place.place_of_field.Goals as goal
 
 regrouped : (list index name : List ℕ) → list ++ 91 ∷ (index ++ 93 ∷ 46 ∷ name) ≡ list ++ codes "[" ++ index ++ codes "]." ++ name

@@ -1,4 +1,4 @@
-use Rattle.std.proofs.Common.{◌≡◌, List, refl}
+use Rattle.std.proofs.Common.{List}
 use Rattle.serde_json.specs.Data.{Data}
 use Rattle.desc_read.specs.declared.place.EntryList.TheVariants.{Files}
 use Rattle.desc_read.specs.declared.plan.FileFrom.{FileFrom}

@@ -1,4 +1,4 @@
-use Rattle.std.proofs.Common.{◌≡◌, refl}
+use Rattle.std.proofs.Common.{refl}
 use Rattle.desc_read.specs.Plans.{program_of}
 use Rattle.desc_read.proofs.Fields.{leaves}
 use Rattle.desc_read.proofs.program.read_program.Goals as goal

@@ -1,4 +1,4 @@
-use Rattle.std.proofs.Common.{◌≡◌, refl}
+use Rattle.std.proofs.Common.{refl}
 use Rattle.desc_read.specs.Plans.{plan_of}
 use Rattle.desc_read.proofs.Fields.{leaves}
 use Rattle.desc_read.proofs.reading.plan_of_value.Goals as goal

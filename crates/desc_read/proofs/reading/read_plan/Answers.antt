@@ -1,4 +1,4 @@
-use Rattle.std.proofs.Common.{◌≡◌, IsUtf8, codes, rules}
+use Rattle.std.proofs.Common.{IsUtf8, codes, rules}
 use Rattle.std.proofs.lemmas.Str.{is_utf8-from_IsUtf8}
 use Rattle.desc_read.specs.declared.fault.DescKind.TheVariants.{Syntax}
 use Rattle.desc_read.specs.Plans.{described}

@@ -1,4 +1,4 @@
-use Rattle.std.proofs.Common.{◌≡◌, refl}
+use Rattle.std.proofs.Common.{refl}
 use Rattle.desc_read.specs.Plans.{crash_of}
 use Rattle.desc_read.proofs.Fields.{leaves}
 use Rattle.desc_read.proofs.schedule.read_crash.Goals as goal

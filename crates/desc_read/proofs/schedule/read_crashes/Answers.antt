@@ -1,4 +1,4 @@
-use Rattle.std.proofs.Common.{◌≡◌, List, [], ◌∷◌, ◌++◌, length, refl, sym, arith, length-append}
+use Rattle.std.proofs.Common.{◌≡◌, List, [], ◌∷◌, ◌++◌, sym, arith, length-append}
 use Rattle.lego_base.specs.declared.shape.CrashAt.{CrashAt}
 use Rattle.serde_json.specs.Data.{Data}
 use Rattle.desc_read.specs.declared.place.EntryList.TheVariants.{Crashes}

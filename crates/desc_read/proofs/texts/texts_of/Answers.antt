@@ -1,6 +1,6 @@
-use Rattle.std.proofs.Common.{◌≡◌, Ok, Err, sym, ◌∙◌, refl}
+use Rattle.std.proofs.Common.{◌≡◌, Err, ◌∙◌, refl}
 use Rattle.serde_json.specs.View.{view}
-use Rattle.desc_read.specs.declared.fault.Flaw.TheVariants.{WrongKind, OutOfRange}
+use Rattle.desc_read.specs.declared.fault.Flaw.TheVariants.{WrongKind}
 use Rattle.desc_read.specs.declared.texts.TextRule.TheVariants.{Argument}
 use Rattle.desc_read.specs.Checks.{text}
 use Rattle.desc_read.proofs.Lists.{seen, of_list, more_wrong, no_more}

@@ -1,10 +1,10 @@
-use Rattle.std.proofs.Common.{◌≡◌, ℕ, List, [], Option, Some, None, Ok, length, ◌<◌, ◌≤◌, refl, sym, ap, ◌∙◌, arith}
+use Rattle.std.proofs.Common.{◌≡◌, ℕ, List, [], Option, Some, None, Ok, length, ◌<◌, ◌≤◌, refl, ◌∙◌, arith}
 use Rattle.serde_json.specs.Data.{Data}
 use Rattle.serde_json.specs.Find.{get}
 use Rattle.serde_json.specs.View.{view}
 use Rattle.desc_read.specs.declared.fault.DescKind.TheVariants.{Kind, Range}
 use Rattle.desc_read.specs.declared.place.Entry.{Entry}
-use Rattle.desc_read.specs.Faults.{field_place, list_name}
+use Rattle.desc_read.specs.Faults.{field_place}
 use Rattle.desc_read.specs.Checks.{list_up_to}
 use Rattle.desc_read.specs.Objects.{field, placed}
 use Rattle.desc_read.proofs.Lists.{up_none, up_some, up_long}

@@ -1,4 +1,3 @@
-use Rattle.std.proofs.Common.{◌≡◌}
 use Rattle.serde_json.specs.View.{view}
 use Rattle.desc_read.specs.Checks.{number}
 use Rattle.desc_read.proofs.Fields.{field_there, field_absent, gives_is}

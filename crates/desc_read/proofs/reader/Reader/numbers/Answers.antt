@@ -1,4 +1,4 @@
-use Rattle.std.proofs.Common.{◌≡◌, ℕ, List, Some, refl, ◌∙◌}
+use Rattle.std.proofs.Common.{◌≡◌, Some, refl, ◌∙◌}
 use Rattle.serde_json.specs.View.{view}
 use Rattle.desc_read.specs.Checks.{number, list_of}
 use Rattle.desc_read.proofs.Fields.{field_there, field_absent, gives_is}

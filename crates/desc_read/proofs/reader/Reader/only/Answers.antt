@@ -1,4 +1,4 @@
-use Rattle.std.proofs.Common.{◌≡◌, refl}
+use Rattle.std.proofs.Common.{refl}
 use Rattle.desc_read.specs.declared.fault.DescKind.TheVariants.{Unknown}
 use Rattle.desc_read.specs.Faults.{field_place}
 use Rattle.desc_read.specs.Objects.{object}

@@ -1,4 +1,4 @@
-use Rattle.std.proofs.Common.{◌≡◌, ℕ, List, None, ap, ◌∙◌}
+use Rattle.std.proofs.Common.{None, ap, ◌∙◌}
 use Rattle.serde_json.specs.View.{view}
 use Rattle.desc_read.specs.declared.fault.DescKind.TheVariants.{Absent}
 use Rattle.desc_read.specs.Faults.{kind_of, field_place}

@@ -1,4 +1,4 @@
-use Rattle.std.proofs.Common.{◌≡◌, ℕ, List, Some, refl, ◌∙◌, option_map, option_to_list}
+use Rattle.std.proofs.Common.{ℕ, List, Some, refl, option_map, option_to_list}
 use Rattle.serde_json.specs.View.{view}
 use Rattle.desc_read.specs.declared.texts.TextRule.TheVariants.{Argument}
 use Rattle.desc_read.specs.Checks.{text, list_of}
