@@ -1,45 +1,61 @@
 -- Output and exits only grow, and after the end nothing changes.
 use Rattle.std.proofs.Common.{◌≡◌, ℕ, zero, suc, ◌+◌, Bool, true, false, cond, refl, sym, ◌∙◌, ap, subst, List, [], ◌∷◌, ◌++◌, append_assoc, append-nil, add-zero, add-suc}
-use Rattle.kernel_model.specs.State.{Kernel, Process, State, Live, Zombie, is_live}
-use Rattle.kernel_model.specs.Effects.{Effect, Reads, Writes, Refused, Goes, Maps, Fills, Starts, Puts, Dies, Out, Err, apply, applies}
-use Rattle.kernel_model.specs.Turns.{Plan, turn, flat, ready, whose, turn_of, is_over}
+use Rattle.kernel_model.specs.State.{Kernel, Process, State, Live, Zombie, is_live, Written, nothing, on, joined}
+use Rattle.kernel_model.specs.Effects.{Effect, Reads, Writes, Refused, Goes, Maps, Fills, Makes, Starts, Takes, Puts, Dies, apply, applies}
+use Rattle.kernel_model.specs.Turns.{Schedule, turn, flat, ready, whose, turn_of, is_over}
 use Rattle.kernel_model.specs.Laws.{Grows}
 
-same : (k : Kernel) → Grows k k
-same k = record { out = ([], sym (append-nil k.out)); err = ([], sym (append-nil k.err)); exits = ([], sym (append-nil k.exits)) }
+-- nothing more, and more than once
+none_more : (w : Written) → w ≡ joined w nothing
+none_more w = λ i. record { out = sym (append-nil w.out) i; err = sym (append-nil w.err) i }
 
-joined : {A : Type 0} (a b c more rest : List A) → b ≡ a ++ more → c ≡ b ++ rest → c ≡ a ++ (more ++ rest)
-joined a b c more rest e f = f ∙ ap (λ (l : List _). l ++ rest) e ∙ append_assoc a more rest
+same : (k : Kernel) → Grows k k
+same k = record { written = (nothing, none_more k.written); exits = ([], sym (append-nil k.exits)) }
+
+written_only : (old new : Kernel) (more : Written) → new.written ≡ joined old.written more → new.exits ≡ old.exits → Grows old new
+written_only old new more e f = record { written = (more, e); exits = ([], f ∙ sym (append-nil old.exits)) }
+
+-- an effect that writes nothing and ends no process
+silent : (old new : Kernel) → new.written ≡ old.written → new.exits ≡ old.exits → Grows old new
+silent old new e f = written_only old new nothing (e ∙ none_more old.written) f
+
+more_exits : {A : Type 0} (a b c more rest : List A) → b ≡ a ++ more → c ≡ b ++ rest → c ≡ a ++ (more ++ rest)
+more_exits a b c more rest e f = f ∙ ap (λ (l : List _). l ++ rest) e ∙ append_assoc a more rest
+
+more_written : (a b c more rest : Written) → b ≡ joined a more → c ≡ joined b rest → c ≡ joined a (joined more rest)
+more_written a b c more rest e f =
+    f ∙ ap (λ (w : Written). joined w rest) e
+    ∙ (λ i. record { out = append_assoc a.out more.out rest.out i; err = append_assoc a.err more.err rest.err i })
 
 then_grows : (k l m : Kernel) → Grows k l → Grows l m → Grows k m
 then_grows k l m g h = record {
-  out = (g.out.0 ++ h.out.0, joined k.out l.out m.out g.out.0 h.out.0 g.out.1 h.out.1);
-  err = (g.err.0 ++ h.err.0, joined k.err l.err m.err g.err.0 h.err.0 g.err.1 h.err.1);
-  exits = (g.exits.0 ++ h.exits.0, joined k.exits l.exits m.exits g.exits.0 h.exits.0 g.exits.1 h.exits.1);
+  written = (joined g.written.0 h.written.0, more_written k.written l.written m.written g.written.0 h.written.0 g.written.1 h.written.1);
+  exits = (g.exits.0 ++ h.exits.0, more_exits k.exits l.exits m.exits g.exits.0 h.exits.0 g.exits.1 h.exits.1);
 }
 
 one_grows : (e : Effect) (k : Kernel) → Grows k (apply e k)
 one_grows (Reads kind pid address bytes) k = same k
-one_grows (Writes kind pid address bytes) k = record { out = ([], sym (append-nil k.out)); err = ([], sym (append-nil k.err)); exits = ([], sym (append-nil k.exits)) }
+one_grows (Writes kind pid address bytes) k = silent k _ refl refl
 one_grows (Refused kind pid address n) k = same k
-one_grows (Goes pid cpu) k = record { out = ([], sym (append-nil k.out)); err = ([], sym (append-nil k.err)); exits = ([], sym (append-nil k.exits)) }
-one_grows (Maps pid areas) k = record { out = ([], sym (append-nil k.out)); err = ([], sym (append-nil k.err)); exits = ([], sym (append-nil k.exits)) }
-one_grows (Fills pid address bytes) k = record { out = ([], sym (append-nil k.out)); err = ([], sym (append-nil k.err)); exits = ([], sym (append-nil k.exits)) }
-one_grows (Starts pid cpu) k = record { out = ([], sym (append-nil k.out)); err = ([], sym (append-nil k.err)); exits = ([], sym (append-nil k.exits)) }
-one_grows (Puts Out bytes) k = record { out = (bytes, refl); err = ([], sym (append-nil k.err)); exits = ([], sym (append-nil k.exits)) }
-one_grows (Puts Err bytes) k = record { out = ([], sym (append-nil k.out)); err = (bytes, refl); exits = ([], sym (append-nil k.exits)) }
-one_grows (Dies pid status) k = record { out = ([], sym (append-nil k.out)); err = ([], sym (append-nil k.err)); exits = (_, refl) }
+one_grows (Goes pid cpu) k = silent k _ refl refl
+one_grows (Maps pid areas) k = silent k _ refl refl
+one_grows (Fills pid address bytes) k = silent k _ refl refl
+one_grows (Makes file) k = silent k _ refl refl
+one_grows (Starts pid cpu) k = silent k _ refl refl
+one_grows (Takes n) k = silent k _ refl refl
+one_grows (Puts stream bytes) k = written_only k _ (on stream bytes) refl refl
+one_grows (Dies pid status) k = record { written = (nothing, none_more k.written); exits = (_, refl) }
 
 all_grow : (es : List Effect) (k : Kernel) → Grows k (applies es k)
 all_grow [] k = same k
 all_grow (e ∷ es) k = then_grows k (apply e k) (applies es (apply e k)) (one_grows e k) (all_grow es (apply e k))
 
-pub output_grows : (plan : Plan) (boot : Kernel) (m n : ℕ) → Grows (flat plan boot m) (flat plan boot (m + n))
+pub output_grows : (schedule : Schedule) (boot : Kernel) (m n : ℕ) → Grows (flat schedule boot m) (flat schedule boot (m + n))
 unfolding flat
-output_grows plan boot m zero = subst (λ (n : ℕ). Grows (flat plan boot m) (flat plan boot n)) (sym (add-zero m)) (same (flat plan boot m))
-output_grows plan boot m (suc n) =
-    subst (λ (n : ℕ). Grows (flat plan boot m) (flat plan boot n)) (sym (add-suc m n))
-    (then_grows (flat plan boot m) (flat plan boot (m + n)) (flat plan boot (suc (m + n))) (output_grows plan boot m n) (all_grow (turn plan (suc (m + n)) (flat plan boot (m + n))) (flat plan boot (m + n))))
+output_grows schedule boot m zero = subst (λ (n : ℕ). Grows (flat schedule boot m) (flat schedule boot n)) (sym (add-zero m)) (same (flat schedule boot m))
+output_grows schedule boot m (suc n) =
+    subst (λ (n : ℕ). Grows (flat schedule boot m) (flat schedule boot n)) (sym (add-suc m n))
+    (then_grows (flat schedule boot m) (flat schedule boot (m + n)) (flat schedule boot (suc (m + n))) (output_grows schedule boot m n) (all_grow (turn schedule (suc (m + n)) (flat schedule boot (m + n))) (flat schedule boot (m + n))))
 
 -- where no process lives, none is ready, and none is found
 live_false : (s : State) → cond (is_live s) false true ≡ true → is_live s ≡ false
@@ -57,15 +73,15 @@ over_not_ready (p ∷ procs) e =
     ap (λ (b : Bool). cond b (p.pid ∷ ready procs) (ready procs)) parts.0 ∙ over_not_ready procs parts.1
 
 -- a turn of a kernel in which no process lives has no effects
-no_turn : (plan : Plan) (n : ℕ) (k : Kernel) (pids : List ℕ) → pids ≡ [] → turn_of plan (whose plan n k.procs pids) k ≡ []
-no_turn plan n k [] e = refl
-no_turn plan n k (pid ∷ pids) e = cc e
+no_turn : (schedule : Schedule) (n : ℕ) (k : Kernel) (pids : List ℕ) → pids ≡ [] → turn_of schedule (whose schedule n k.procs pids) k ≡ []
+no_turn schedule n k [] e = refl
+no_turn schedule n k (pid ∷ pids) e = cc e
 
-pub end_stays : (plan : Plan) (boot : Kernel) (m n : ℕ) → is_over (flat plan boot m).procs ≡ true → flat plan boot (m + n) ≡ flat plan boot m
+pub end_stays : (schedule : Schedule) (boot : Kernel) (m n : ℕ) → is_over (flat schedule boot m).procs ≡ true → flat schedule boot (m + n) ≡ flat schedule boot m
 unfolding flat
-end_stays plan boot m zero over = ap (flat plan boot) (add-zero m)
-end_stays plan boot m (suc n) over =
-    let before : flat plan boot (m + n) ≡ flat plan boot m = end_stays plan boot m n over in
-    let over_before : is_over (flat plan boot (m + n)).procs ≡ true = ap (λ (k : Kernel). is_over k.procs) before ∙ over in
-    let none : turn plan (suc (m + n)) (flat plan boot (m + n)) ≡ [] = no_turn plan (suc (m + n)) (flat plan boot (m + n)) (ready (flat plan boot (m + n)).procs) (over_not_ready (flat plan boot (m + n)).procs over_before) in
-    ap (flat plan boot) (add-suc m n) ∙ ap (λ (es : List Effect). applies es (flat plan boot (m + n))) none ∙ before
+end_stays schedule boot m zero over = ap (flat schedule boot) (add-zero m)
+end_stays schedule boot m (suc n) over =
+    let before : flat schedule boot (m + n) ≡ flat schedule boot m = end_stays schedule boot m n over in
+    let over_before : is_over (flat schedule boot (m + n)).procs ≡ true = ap (λ (k : Kernel). is_over k.procs) before ∙ over in
+    let none : turn schedule (suc (m + n)) (flat schedule boot (m + n)) ≡ [] = no_turn schedule (suc (m + n)) (flat schedule boot (m + n)) (ready (flat schedule boot (m + n)).procs) (over_not_ready (flat schedule boot (m + n)).procs over_before) in
+    ap (flat schedule boot) (add-suc m n) ∙ ap (λ (es : List Effect). applies es (flat schedule boot (m + n))) none ∙ before

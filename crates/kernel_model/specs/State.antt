@@ -1,6 +1,7 @@
 -- The state of the one plain kernel.
-use Rattle.std.specs.Prelude.{◌==◌, ℕ, ◌&&◌, Bool, true, false, if◌then◌else◌, List, [], ◌∷◌, map, filter, Option, Some, None}
+use Rattle.std.specs.Prelude.{◌==◌, ℕ, ◌&&◌, Bool, true, false, if◌then◌else◌, List, [], ◌∷◌, ◌++◌, map, filter, Option, Some, None}
 use Rattle.lego_base.specs.declared.report.Exit.{Exit}
+use Rattle.lego_base.specs.declared.report.FileOut.{FileOut}
 use Rattle.lego_base.specs.Space.{Space, no_space, with_space}
 use Rattle.rv64_step.specs.declared.cpu.Cpu.{Cpu}
 
@@ -16,20 +17,44 @@ pub record Process : Type 0 where
   pub parent : ℕ
   pub state : State
 
+-- standard output or standard error
+pub data Stream : Type 0 where
+  Out : Stream
+  Err : Stream
+
+-- what was written to each
+pub record Written : Type 0 where
+  pub out : List ℕ
+  pub err : List ℕ
+
+abbrev pub nothing : Written
+nothing = record { out = []; err = [] }
+
+-- bytes for one of them
+abbrev pub on : Stream → List ℕ → Written
+on Out bytes = record { out = bytes; err = [] }
+on Err bytes = record { out = []; err = bytes }
+
+-- on each stream the one behind the other
+abbrev pub joined : Written → Written → Written
+joined first second = record { out = first.out ++ second.out; err = first.err ++ second.err }
+
 pub record Kernel : Type 0 where
   -- in the order of their pids
   pub procs : List Process
   -- by pid
   pub space : ℕ → Space
-  -- what was written to standard output and to standard error
-  pub out : List ℕ
-  pub err : List ℕ
+  -- the files that have a name
+  pub files : List FileOut
+  -- what is left of standard input
+  pub input : List ℕ
+  pub written : Written
   -- the exits in order
   pub exits : List Exit
 
--- before anything was loaded
-abbrev pub no_kernel : Kernel
-no_kernel = record { procs = []; space = λ pid. no_space; out = []; err = []; exits = [] }
+-- before anything was loaded: there is standard input alone
+abbrev pub unbooted : List ℕ → Kernel
+unbooted input = record { procs = []; space = λ pid. no_space; files = []; input = input; written = nothing; exits = [] }
 
 -- the processes with one of them changed
 abbrev pub at_pid : ℕ → (Process → Process) → List Process → List Process

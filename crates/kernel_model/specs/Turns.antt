@@ -11,7 +11,7 @@ use Rattle.kernel_model.specs.Instructions.{Ran, many}
 use Rattle.kernel_model.specs.Calls.{the_row, called, is_unbuilt}
 
 -- what fixes the turns of a run
-pub record Plan : Type 0 where
+pub record Schedule : Type 0 where
   -- which of the ready processes has the turn, by turns
   pub turns : List ℕ
   -- instructions of a turn
@@ -34,35 +34,35 @@ abbrev pub after_run : ℕ → Ran → Kernel → List Effect
 after_run pid r k = r.effects ++ at_stop r.stop pid r.cpu (applies r.effects k)
 
 -- its instructions
-abbrev pub run_of : Plan → Process → Kernel → Ran
-run_of plan p k = many plan.quantum p.pid p.cpu (k.space p.pid)
+abbrev pub run_of : Schedule → Process → Kernel → Ran
+run_of schedule p k = many schedule.quantum p.pid p.cpu (k.space p.pid)
 
-abbrev pub turn_of : Plan → Option Process → Kernel → List Effect
-turn_of plan None k = []
-turn_of plan (Some p) k = after_run p.pid (run_of plan p k) k
+abbrev pub turn_of : Schedule → Option Process → Kernel → List Effect
+turn_of schedule None k = []
+turn_of schedule (Some p) k = after_run p.pid (run_of schedule p k) k
 
 -- the pid that has turn n, from 1
-abbrev pub chosen : Plan → ℕ → List ℕ → ℕ
-chosen plan n pids = slice_index pids (slice_index plan.turns ((n - 1) % length plan.turns) % length pids)
+abbrev pub chosen : Schedule → ℕ → List ℕ → ℕ
+chosen schedule n pids = slice_index pids (slice_index schedule.turns ((n - 1) % length schedule.turns) % length pids)
 
 -- who has turn n: no process where none is ready
-abbrev pub whose : Plan → ℕ → List Process → List ℕ → Option Process
-whose plan n procs [] = None
-whose plan n procs (pid ∷ pids) = process procs (chosen plan n (pid ∷ pids))
+abbrev pub whose : Schedule → ℕ → List Process → List ℕ → Option Process
+whose schedule n procs [] = None
+whose schedule n procs (pid ∷ pids) = process procs (chosen schedule n (pid ∷ pids))
 
 -- the effects of turn n
-abbrev pub turn : Plan → ℕ → Kernel → List Effect
-turn plan n k = turn_of plan (whose plan n k.procs (ready k.procs)) k
+abbrev pub turn : Schedule → ℕ → Kernel → List Effect
+turn schedule n k = turn_of schedule (whose schedule n k.procs (ready k.procs)) k
 
 -- the flat run: the kernel after so many turns
-unfoldable pub flat : Plan → Kernel → ℕ → Kernel
-flat plan boot zero = boot
-flat plan boot (suc n) = applies (turn plan (suc n) (flat plan boot n)) (flat plan boot n)
+unfoldable pub flat : Schedule → Kernel → ℕ → Kernel
+flat schedule boot zero = boot
+flat schedule boot (suc n) = applies (turn schedule (suc n) (flat schedule boot n)) (flat schedule boot n)
 
 -- all effects of so many turns, in order
-unfoldable pub flat_effects : Plan → Kernel → ℕ → List Effect
-flat_effects plan boot zero = []
-flat_effects plan boot (suc n) = flat_effects plan boot n ++ turn plan (suc n) (flat plan boot n)
+unfoldable pub flat_effects : Schedule → Kernel → ℕ → List Effect
+flat_effects schedule boot zero = []
+flat_effects schedule boot (suc n) = flat_effects schedule boot n ++ turn schedule (suc n) (flat schedule boot n)
 
 -- whether no process lives
 abbrev pub is_over : List Process → Bool
@@ -70,11 +70,11 @@ is_over [] = true
 is_over (p ∷ procs) = if is_live p.state then false else is_over procs
 
 -- how a run ends before turn n + 1, where it does: no process lives, none is ready, or all turns are over
-abbrev pub ended : Plan → ℕ → Kernel → Option EndWord
-ended plan n k =
+abbrev pub ended : Schedule → ℕ → Kernel → Option EndWord
+ended schedule n k =
     if is_over k.procs then Some Done else (
     if length (ready k.procs) == 0 then Some Stuck else (
-    if nat_lt n plan.max_turns then None else Some Spent))
+    if nat_lt n schedule.max_turns then None else Some Spent))
 
 -- whether the turn comes to a call that isn't built
 abbrev pub is_unbuilt_stop : StepEnd → ℕ → Cpu → Kernel → Bool
@@ -85,9 +85,9 @@ is_unbuilt_stop (Dead signal) pid cpu k = false
 abbrev pub is_unbuilt_run : ℕ → Ran → Kernel → Bool
 is_unbuilt_run pid r k = is_unbuilt_stop r.stop pid r.cpu (applies r.effects k)
 
-abbrev pub is_unbuilt_for : Plan → Option Process → Kernel → Bool
-is_unbuilt_for plan None k = false
-is_unbuilt_for plan (Some p) k = is_unbuilt_run p.pid (run_of plan p k) k
+abbrev pub is_unbuilt_for : Schedule → Option Process → Kernel → Bool
+is_unbuilt_for schedule None k = false
+is_unbuilt_for schedule (Some p) k = is_unbuilt_run p.pid (run_of schedule p k) k
 
-abbrev pub is_unbuilt_turn : Plan → ℕ → Kernel → Bool
-is_unbuilt_turn plan n k = is_unbuilt_for plan (whose plan n k.procs (ready k.procs)) k
+abbrev pub is_unbuilt_turn : Schedule → ℕ → Kernel → Bool
+is_unbuilt_turn schedule n k = is_unbuilt_for schedule (whose schedule n k.procs (ready k.procs)) k

@@ -8,7 +8,7 @@
 //! on are public in `proofs/`.
 #![tactic(auto)]
 
-ghost use Rattle.kernel_model.specs.Laws.{OutputOnlyGrows, RunIsItsEffects, TheEndIsTheEnd};
+ghost use Rattle.kernel_model.specs.Laws.{BootBuildsTheSpace, OutputOnlyGrows, RunIsItsEffects, TheEndIsTheEnd};
 
 /// The run is what its list of effects makes of the kernel that was booted.
 pub fn run_is_its_effects()
@@ -23,4 +23,10 @@ pub fn output_only_grows()
 /// Once no process lives, nothing changes any more.
 pub fn the_end_is_the_end()
     ensures { TheEndIsTheEnd }
+{}
+
+/// Booting, which writes page by page, comes to process 1 in a space with the bytes of each load at their
+/// addresses, the start stack over them, and 0 at all other addresses.
+pub fn boot_builds_the_space()
+    ensures { BootBuildsTheSpace }
 {}

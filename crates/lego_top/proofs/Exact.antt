@@ -1,195 +1,339 @@
 -- From the causes of endings to when each comes.
-use Rattle.std.proofs.Common.{◌≡◌, ℕ, suc, ◌<◌, ◌≤◌, ◌⊎◌, ◌↔◌, inl, inr, Bool, true, false, cond, List, length, Option, Some, None, refl, sym, ◌∙◌, ap, subst, arith}
+use Rattle.std.proofs.Common.{◌≡◌, ℕ, suc, ◌<◌, ◌≤◌, ◌⊎◌, ◌↔◌, inl, inr, Bool, true, false, cond, List, [], ◌∷◌, ◌++◌, length, Option, Some, None, Result, Ok, Err, refl, sym, ◌∙◌, ap, subst, append-nil, arith}
 use Rattle.std.specs.Option.{option_map}
 use Rattle.std.proofs.lemmas.Bool.{cases_lt, lt-ltb, le-ltb}
 use Rattle.lego_base.specs.declared.report.EndWord.{EndWord}
 use Rattle.lego_base.specs.declared.report.EndWord.TheVariants as words
 use Rattle.host_io.specs.Counts.{Rose, Calm}
 use Rattle.host_io.specs.Depots.{Files, Has}
+use Rattle.host_io.specs.Sources.{ReadWhole, Gave, IsDry, IsLonger}
 use Rattle.host_io.proofs.CountLaws.{Calm-not_rose}
+use Rattle.desc_read.specs.declared.plan.Plan.{Plan}
+use Rattle.desc_read.specs.declared.plan.FileFrom.{FileFrom}
+use Rattle.desc_read.specs.Faults.{Refusal, refused as refused_desc}
+use Rattle.desc_read.specs.Plans.{described}
 use Rattle.elf_image.specs.declared.fault.ImageFault.{ImageFault}
 use Rattle.elf_image.specs.Image.{first_fault}
+use Rattle.kernel_model.specs.State as streams
 use Rattle.kernel_model.specs.State.{Kernel}
-use Rattle.kernel_model.specs.Turns.{flat, ended, is_unbuilt_turn}
+use Rattle.kernel_model.specs.Turns.{Schedule, flat, ended, is_unbuilt_turn}
+use Rattle.plain_kernel.specs.Runs.{schedule_of, EndsAfter, StopsAtCall}
 use Rattle.lego_top.specs.declared.ending.Ending.{Ending}
-use Rattle.lego_top.specs.declared.ending.Ending.TheVariants.{Done, Spent, Usage, Missing, FileLong, DepotFault, BadImage, Unbuilt, OutFault, NoMemory}
-use Rattle.lego_top.specs.declared.ending.Part.{Part}
-use Rattle.lego_top.specs.declared.ending.Part.TheVariants.{Call}
-use Rattle.lego_top.specs.Words.{named}
-use Rattle.lego_top.specs.ImageRun.{plan, booted, Through, EndsAfter, Ends, Stops, StopsAtCall, Cuts}
-use Rattle.lego_top.specs.Caused.{Outside, Found, Began, Caused, longest}
-use Rattle.lego_top.specs.Decided.{refusal, refusal_of, Refused, IsFine, ComesToCall, Complete}
+use Rattle.lego_top.specs.declared.ending.Ending.TheVariants.{Done, Spent, Stuck, Usage, Missing, FileLong, BadDesc, BadImage, InputFault, InputLong, DepotFault, Unbuilt, OutFault, ErrFault, NoMemory}
+use Rattle.lego_top.specs.declared.ending.Part.TheVariants as parts
+use Rattle.lego_top.specs.Outside.{Outside, longest}
+use Rattle.lego_top.specs.Accepted.{Found, Planned, Names, Loaded, Fed, Ran, plan_in, booted}
+use Rattle.lego_top.specs.Caused.{Ended, EndedUnput, Caused}
+use Rattle.lego_top.specs.Decided.{image_refusal, init_refusal, plan_refusal, read_refusal, desc_refusal, refusal, Refused, IsFine, ComesToCall, ending_of, Complete}
 
--- two words for one thing
+-- ---- two words for one thing
+
 none_some : {A : Type 0} {C : Type 0} (o : Option A) (x : A) → o ≡ None → o ≡ Some x → C
 none_some o x e f = let differ : None ≡ Some x = sym e ∙ f in absurd (cc differ)
 
 same_some : {A : Type 0} (o : Option A) (x y : A) → o ≡ Some x → o ≡ Some y → x ≡ y
 same_some o x y e f = let same : Some x ≡ Some y = sym e ∙ f in cc same
 
+same_ok : {A E : Type 0} (r : Result A E) (x y : A) → r ≡ Ok x → r ≡ Ok y → x ≡ y
+same_ok r x y e f = let same : Ok x ≡ Ok y = sym e ∙ f in cc same
+
+ok_err : {A E : Type 0} {C : Type 0} (r : Result A E) (x : A) (y : E) → r ≡ Ok x → r ≡ Err y → C
+ok_err r x y e f = let differ : Ok x ≡ Err y = sym e ∙ f in absurd (cc differ)
+
 -- what a depot that tells has under a name
 has : (told : Option Files) (files : Files) (name : List ℕ) (entry : Option (List ℕ)) → told ≡ Some files → Has told name entry → files name ≡ entry
 has told files name entry e h = subst (λ (told : Option Files). Has told name entry) e h
 
-module _ (boot : Kernel) where
-  -- the flat run ends once
-  ends_once : (t t' : ℕ) (word word' : EndWord) → EndsAfter boot t word → EndsAfter boot t' word' → word ≡ word'
+-- what an input that tells had, which was read whole
+fed_is : (told now : Option (List ℕ)) (left bytes : List ℕ) → told ≡ Some left → Gave told now bytes → IsDry now → left ≡ bytes
+fed_is told now left bytes e gave dry = by now (subst (λ (told : Option (List ℕ)). Gave told now bytes) e gave) dry
+  where
+    by : (now : Option (List ℕ)) → Gave (Some left) now bytes → IsDry now → left ≡ bytes
+    by None gave dry = absurd gave
+    by (Some rest) gave dry = gave ∙ ap (λ (rest : List ℕ). bytes ++ rest) dry ∙ append-nil bytes
+
+-- ---- the flat run ends once
+
+module _ (schedule : Schedule) (boot : Kernel) where
+  ends_once : (t t' : ℕ) (word word' : EndWord) → EndsAfter schedule boot t word → EndsAfter schedule boot t' word' → word ≡ word'
   ends_once t t' word word' e e' = by (cases_lt t t') (cases_lt t' t)
     where
       by : ((t < t') ⊎ (t' ≤ t)) → ((t' < t) ⊎ (t ≤ t')) → word ≡ word'
-      by (inl less) more = none_some (ended plan t (flat plan boot t)) word (e'.through.before t less).not_ended e.ends
-      by (inr le) (inl less) = none_some (ended plan t' (flat plan boot t')) word' (e.through.before t' less).not_ended e'.ends
-      by (inr le) (inr le') = let same : t ≡ t' = omega arith in same_some (ended plan t (flat plan boot t)) word word' e.ends (ap (λ (n : ℕ). ended plan n (flat plan boot n)) same ∙ e'.ends)
+      by (inl less) more = none_some (ended schedule t (flat schedule boot t)) word (e'.through.before t less).not_ended e.ends
+      by (inr le) (inl less) = none_some (ended schedule t' (flat schedule boot t')) word' (e.through.before t' less).not_ended e'.ends
+      by (inr le) (inr le') = let same : t ≡ t' = omega arith in same_some (ended schedule t (flat schedule boot t)) word word' e.ends (ap (λ (n : ℕ). ended schedule n (flat schedule boot n)) same ∙ e'.ends)
 
   true_false : {C : Type 0} (b : Bool) → b ≡ true → b ≡ false → C
   true_false b e f = let differ : true ≡ false = sym e ∙ f in absurd (cc differ)
 
   -- a run that ends comes to no call that isn't built
-  no_call : (t u : ℕ) (word : EndWord) → EndsAfter boot t word → ComesToCall boot u → ⊥
+  no_call : (t u : ℕ) (word : EndWord) → EndsAfter schedule boot t word → ComesToCall schedule boot u → ⊥
   no_call t u word e call = by (cases_lt t u) (cases_lt u t)
     where
       by : ((t < u) ⊎ (u ≤ t)) → ((u < t) ⊎ (t ≤ u)) → ⊥
-      by (inl less) more = none_some (ended plan t (flat plan boot t)) word (call.through.before t less).not_ended e.ends
-      by (inr le) (inl less) = true_false (is_unbuilt_turn plan (suc u) (flat plan boot u)) call.unbuilt (e.through.before u less).built
-      by (inr le) (inr le') = let same : t ≡ u = omega arith in none_some (ended plan t (flat plan boot t)) word (ap (λ (n : ℕ). ended plan n (flat plan boot n)) same ∙ call.not_ended) e.ends
+      by (inl less) more = none_some (ended schedule t (flat schedule boot t)) word (call.into.through.before t less).not_ended e.ends
+      by (inr le) (inl less) = true_false (is_unbuilt_turn schedule (suc u) (flat schedule boot u)) call.unbuilt (e.through.before u less).built
+      by (inr le) (inr le') = let same : t ≡ u = omega arith in none_some (ended schedule t (flat schedule boot t)) word (ap (λ (n : ℕ). ended schedule n (flat schedule boot n)) same ∙ call.into.not_ended) e.ends
 
--- a run that stopped at a call came to it
-comes : (bytes : List ℕ) (told told' : Option (List ℕ)) (stops : StopsAtCall bytes told told') → ComesToCall (booted bytes) stops.stops.turns
-comes bytes told told' stops = record { through = stops.stops.through; more = stops.more; not_ended = stops.not_ended; unbuilt = stops.unbuilt }
+-- ---- what is fine isn't refused, and runs as the flat run does
 
-module _ (arguments : List (List ℕ)) (before after : Outside) where
-  -- the file that was found is the one that the depot has
-  module _ (bytes : List ℕ) (fine : IsFine arguments before after bytes) where
-    bytes_are : (found : Found arguments before) → found.bytes ≡ bytes
-    bytes_are found =
-        let name : found.name ≡ fine.name = same_some (named arguments) found.name fine.name found.is_named fine.is_named in
-        let entry : fine.files found.name ≡ Some found.bytes = has before.files fine.files found.name (Some found.bytes) fine.tells found.there in
-        same_some (fine.files fine.name) found.bytes bytes (ap fine.files (sym name) ∙ entry) fine.there
+module _ (asked : Option (List ℕ)) (before after world : Outside) (fine : IsFine asked before world) where
+  found_is : (found : Found asked before) → found.bytes ≡ fine.desc
+  found_is found =
+      let name : found.name ≡ fine.name = same_some asked found.name fine.name found.is_asked fine.is_asked in
+      let entry : fine.files found.name ≡ Some found.bytes = has before.outlets.files fine.files found.name (Some found.bytes) fine.tells found.there in
+      same_some (fine.files fine.name) found.bytes fine.desc (ap fine.files (sym name) ∙ entry) fine.desc_there
 
-    moved : (P : List ℕ → Type 0) (began : Began arguments before P) → P bytes
-    moved P began = subst P (bytes_are began.found) began.did
+  planned_is : (planned : Planned asked before) → planned.plan ≡ fine.plan
+  planned_is planned = same_ok (described fine.desc) planned.plan fine.plan (ap described (sym (found_is planned.found)) ∙ planned.reads) fine.reads
 
-    -- endings that a fine file rules out
-    not_usage : {C : Type 0} → Caused arguments before after Usage → C
-    not_usage c = none_some (named arguments) fine.name c.0 fine.is_named
+  loaded_is : (loaded : Loaded asked before) → loaded.image ≡ fine.image
+  loaded_is loaded =
+      let entry : fine.files loaded.planned.plan.init ≡ Some loaded.image = has before.outlets.files fine.files loaded.planned.plan.init (Some loaded.image) fine.tells loaded.there in
+      same_some (fine.files fine.plan.init) loaded.image fine.image (ap (λ (plan : Plan). fine.files plan.init) (sym (planned_is loaded.planned)) ∙ entry) fine.image_there
 
-    not_missing : {C : Type 0} (name : List ℕ) → Caused arguments before after (Missing name) → C
-    not_missing name c =
-        let same : name ≡ fine.name = same_some (named arguments) name fine.name c.0 fine.is_named in
-        none_some (fine.files name) bytes (has before.files fine.files name None fine.tells c.1) (ap fine.files same ∙ fine.there)
+  fed_fine : (fed : Fed asked before after) → fed.input ≡ fine.input
+  fed_fine fed = sym (fed_is before.input after.input fine.input fed.input fine.tells_input fed.whole.gave fed.whole.dry)
 
-    not_long : {C : Type 0} (name : List ℕ) → Caused arguments before after (FileLong name) → C
-    not_long name c =
-        let same : name ≡ fine.name = same_some (named arguments) name fine.name c.1 fine.is_named in
-        let held : c.0 ≡ bytes = same_some (fine.files name) c.0 bytes (has before.files fine.files name (Some c.0) fine.tells c.2) (ap fine.files same ∙ fine.there) in
-        let length_is : length c.0 ≡ length bytes = ap length held in
-        let fits : length bytes ≤ 16777216 = fine.fits in
-        let long : 16777216 < length c.0 = c.3 in
-        let no : ⊥ = omega (arith, length_is, fits, long) in absurd no
+  abbrev schedule : Schedule
+  schedule = schedule_of fine.plan
 
-    not_bad : {C : Type 0} (fault : ImageFault) → Caused arguments before after (BadImage fault) → C
-    not_bad fault c = none_some (first_fault bytes) fault fine.good (moved (λ bytes. first_fault bytes ≡ Some fault) c.0)
+  abbrev boot : Kernel
+  boot = booted fine.plan fine.image fine.input
 
-    not_depot : {C : Type 0} → Caused arguments before after DepotFault → C
-    not_depot c = absurd (Calm-not_rose before.depot_faults after.depot_faults fine.depot_calm c.2)
+  -- what was done with the plan that was read was done with the fine one
+  moved : (Did : Plan → Kernel → Type 0) (ran : Ran asked before after Did) → Did fine.plan boot
+  moved Did ran =
+      subst (λ (plan : Plan). Did plan (booted plan fine.image fine.input)) (planned_is ran.fed.loaded.planned)
+      (subst (λ (image : List ℕ). Did ran.fed.loaded.planned.plan (booted ran.fed.loaded.planned.plan image fine.input)) (loaded_is ran.fed.loaded)
+      (subst (λ (input : List ℕ). Did ran.fed.loaded.planned.plan (booted ran.fed.loaded.planned.plan ran.fed.loaded.image input)) (fed_fine ran.fed) ran.did))
 
-    not_out : {C : Type 0} → Caused arguments before after OutFault → C
-    not_out c = absurd (Calm-not_rose before.out_faults after.out_faults fine.out_calm c.0)
+  -- a file that the words or the plan name is there, and isn't too long
+  names_fine : (name : List ℕ) → Names asked before name → (bytes : List ℕ) × (fine.files name ≡ Some bytes) × (length bytes ≤ longest)
+  names_fine name (inl is) =
+      let same : name ≡ fine.name = same_some asked name fine.name is fine.is_asked in
+      (fine.desc, ap fine.files same ∙ fine.desc_there, fine.desc_fits)
+  names_fine name (inr planned) =
+      let same : name ≡ fine.plan.init = sym planned.1 ∙ ap (λ (plan : Plan). plan.init) (planned_is planned.0) in
+      (fine.image, ap fine.files same ∙ fine.image_there, fine.image_fits)
 
-    word_is : (t : ℕ) (word word' : EndWord) → EndsAfter (booted bytes) t word → Began arguments before (λ bytes. Ends bytes before.out after.out word') → word ≡ word'
-    word_is t word word' ends began = let ran : Ends bytes before.out after.out word' = moved (λ bytes. Ends bytes before.out after.out word') began in ends_once (booted bytes) t ran.turns word word' ends ran.ends
+  no_missing : {C : Type 0} (name : List ℕ) → Caused asked before after (Missing name) → C
+  no_missing name c = let there = names_fine name c.0 in none_some (fine.files name) there.0 (has before.outlets.files fine.files name None fine.tells c.1) there.1
 
-    no_unbuilt : (t : ℕ) (word : EndWord) → EndsAfter (booted bytes) t word → Began arguments before (λ bytes. StopsAtCall bytes before.out after.out) → ⊥
-    no_unbuilt t word ends began = let stops : StopsAtCall bytes before.out after.out = moved (λ bytes. StopsAtCall bytes before.out after.out) began in no_call (booted bytes) t stops.stops.turns word ends (comes bytes before.out after.out stops)
+  no_long : {C : Type 0} (name : List ℕ) → Caused asked before after (FileLong name) → C
+  no_long name c =
+      let there = names_fine name c.1 in
+      let held : c.0 ≡ there.0 = same_some (fine.files name) c.0 there.0 (has before.outlets.files fine.files name (Some c.0) fine.tells c.2) there.1 in
+      let size : length c.0 ≡ length there.0 = ap (λ (l : List ℕ). length l) held in
+      let fits : length there.0 ≤ 16777216 = there.2 in
+      let long : 16777216 < length c.0 = c.3 in
+      let no : ⊥ = omega (arith, size, fits, long) in absurd no
 
-    no_end : (u : ℕ) (word : EndWord) → ComesToCall (booted bytes) u → Began arguments before (λ bytes. Ends bytes before.out after.out word) → ⊥
-    no_end u word call began = let ran : Ends bytes before.out after.out word = moved (λ bytes. Ends bytes before.out after.out word) began in no_call (booted bytes) ran.turns u word ran.ends call
+  no_bad_desc : {C : Type 0} (flaw : _) (place : List ℕ) → Caused asked before after (BadDesc flaw place) → C
+  no_bad_desc flaw place c = ok_err (described fine.desc) fine.plan _ fine.reads (ap described (sym (found_is c.0)) ∙ c.1)
 
-    done_is : (t : ℕ) → EndsAfter (booted bytes) t words.Done → (result : Ending) → Caused arguments before after result → (result ≡ Done) ⊎ (result ≡ NoMemory)
-    done_is t ends Done c = inl refl
-    done_is t ends Spent c = let differ : words.Done ≡ words.Spent = word_is t words.Done words.Spent ends c in absurd (cc differ)
-    done_is t ends Usage c = not_usage c
-    done_is t ends (Missing name) c = not_missing name c
-    done_is t ends (FileLong name) c = not_long name c
-    done_is t ends DepotFault c = not_depot c
-    done_is t ends (BadImage fault) c = not_bad fault c
-    done_is t ends (Unbuilt part) c = absurd (no_unbuilt t words.Done ends c)
-    done_is t ends OutFault c = not_out c
-    done_is t ends NoMemory c = inr refl
+  no_files : {C : Type 0} → Caused asked before after (Unbuilt parts.Files) → C
+  no_files c =
+      let same : c.1 ≡ fine.plan = same_ok (described fine.desc) c.1 fine.plan (ap described (sym (found_is c.0)) ∙ c.2) fine.reads in
+      let none : length c.1.files ≡ 0 = ap (λ (plan : Plan). length plan.files) same ∙ ap (λ (files : List FileFrom). length files) fine.built in
+      let some : 0 < length c.1.files = c.3 in
+      let no : ⊥ = omega (arith, none, some) in absurd no
 
-    spent_is : (t : ℕ) → EndsAfter (booted bytes) t words.Spent → (result : Ending) → Caused arguments before after result → (result ≡ Spent) ⊎ (result ≡ NoMemory)
-    spent_is t ends Done c = let differ : words.Spent ≡ words.Done = word_is t words.Spent words.Done ends c in absurd (cc differ)
-    spent_is t ends Spent c = inl refl
-    spent_is t ends Usage c = not_usage c
-    spent_is t ends (Missing name) c = not_missing name c
-    spent_is t ends (FileLong name) c = not_long name c
-    spent_is t ends DepotFault c = not_depot c
-    spent_is t ends (BadImage fault) c = not_bad fault c
-    spent_is t ends (Unbuilt part) c = absurd (no_unbuilt t words.Spent ends c)
-    spent_is t ends OutFault c = not_out c
-    spent_is t ends NoMemory c = inr refl
+  no_bad_image : {C : Type 0} (fault : ImageFault) → Caused asked before after (BadImage fault) → C
+  no_bad_image fault c = none_some (first_fault fine.image) fault fine.good (ap first_fault (sym (loaded_is c.0.loaded)) ∙ c.1)
 
-    unbuilt_is : (u : ℕ) → ComesToCall (booted bytes) u → (result : Ending) → Caused arguments before after result → (result ≡ Unbuilt Call) ⊎ (result ≡ NoMemory)
-    unbuilt_is u call Done c = absurd (no_end u words.Done call c)
-    unbuilt_is u call Spent c = absurd (no_end u words.Spent call c)
-    unbuilt_is u call Usage c = not_usage c
-    unbuilt_is u call (Missing name) c = not_missing name c
-    unbuilt_is u call (FileLong name) c = not_long name c
-    unbuilt_is u call DepotFault c = not_depot c
-    unbuilt_is u call (BadImage fault) c = not_bad fault c
-    unbuilt_is u call (Unbuilt Call) c = inl refl
-    unbuilt_is u call OutFault c = not_out c
-    unbuilt_is u call NoMemory c = inr refl
+  no_long_input : {C : Type 0} → Caused asked before after InputLong → C
+  no_long_input c =
+      let long : longest < length fine.input = subst (λ (told : Option (List ℕ)). IsLonger longest told) fine.tells_input c.1 in
+      let fits : length fine.input ≤ 16777216 = fine.input_fits in
+      let no : ⊥ = omega (arith, long, fits) in absurd no
 
-  pub complete : (result : Ending) → Caused arguments before after result → Complete arguments before after result
-  complete result c = record {
-    done = λ bytes fine t ends. done_is bytes fine t ends result c;
-    spent = λ bytes fine t ends. spent_is bytes fine t ends result c;
-    unbuilt = λ bytes fine u call. unbuilt_is bytes fine u call result c;
-  }
+  -- a run that ended, by the flat run's end
+  word_is : (t : ℕ) (word word' : EndWord) → EndsAfter schedule boot t word → Ran asked before after (Ended before.outlets after.outlets word') → ending_of word' ≡ ending_of word
+  word_is t word word' ends ran =
+      let did : Ended before.outlets after.outlets word' fine.plan boot = moved (Ended before.outlets after.outlets word') ran in
+      ap ending_of (sym (ends_once schedule boot t did.turns word word' ends did.ends))
 
-  -- what a file that was run is not refused for
-  ran_not_refused : {C : Type 0} (files : Files) (first : Ending) → before.files ≡ Some files → refusal (named arguments) files ≡ Some first → (found : Found arguments before) → length found.bytes ≤ longest → first_fault found.bytes ≡ None → C
-  ran_not_refused files first tells e found fits good =
-      let file : files found.name ≡ Some found.bytes = has before.files files found.name (Some found.bytes) tells found.there in
-      let none : refusal (named arguments) files ≡ None =
-      ap (λ (o : Option (List ℕ)). refusal o files) found.is_named
-      ∙ ap (refusal_of found.name) file
-      ∙ ap (λ (b : Bool). cond b (Some (FileLong found.name)) (option_map BadImage (first_fault found.bytes))) (le-ltb longest (length found.bytes) fits)
-      ∙ ap (option_map BadImage) good in
-      none_some (refusal (named arguments) files) first none e
+  comes : (stops : StopsAtCall schedule boot before.outlets.streams after.outlets.streams) → ComesToCall schedule boot stops.turns
+  comes stops = record { into = stops.into; unbuilt = stops.unbuilt }
 
-  pub refused : (result : Ending) → Caused arguments before after result → Refused arguments before result
-  refused Done c files tells first e = ran_not_refused files first tells e c.found c.fits c.did.good
-  refused Spent c files tells first e = ran_not_refused files first tells e c.found c.fits c.did.good
-  refused Usage c files tells first e = inl (same_some (refusal (named arguments) files) Usage first (ap (λ (o : Option (List ℕ)). refusal o files) c.0) e)
-  refused (Missing name) c files tells first e =
-      inl (same_some (refusal (named arguments) files) (Missing name) first (ap (λ (o : Option (List ℕ)). refusal o files) c.0 ∙ ap (refusal_of name) (has before.files files name None tells c.1)) e)
-  refused (FileLong name) c files tells first e =
-      inl (same_some (refusal (named arguments) files) (FileLong name) first
-      (ap (λ (o : Option (List ℕ)). refusal o files) c.1 ∙ ap (refusal_of name) (has before.files files name (Some c.0) tells c.2) ∙ ap (λ (b : Bool). cond b (Some (FileLong name)) (option_map BadImage (first_fault c.0))) (lt-ltb longest (length c.0) c.3)) e)
-  refused DepotFault c files tells first e = inr (inl refl)
-  refused (BadImage fault) c files tells first e =
-      let found : Found arguments before = c.0.found in
-      inl (same_some (refusal (named arguments) files) (BadImage fault) first
-      (ap (λ (o : Option (List ℕ)). refusal o files) found.is_named ∙ ap (refusal_of found.name) (has before.files files found.name (Some found.bytes) tells found.there) ∙ ap (λ (b : Bool). cond b (Some (FileLong found.name)) (option_map BadImage (first_fault found.bytes))) (le-ltb longest (length found.bytes) c.0.fits) ∙ ap (option_map BadImage) c.0.did) e)
-  refused (Unbuilt part) c files tells first e = ran_not_refused files first tells e c.found c.fits c.did.stops.good
-  refused OutFault c files tells first e = ran_not_refused files first tells e c.1.found c.1.fits c.1.did.good
-  refused NoMemory c files tells first e = inr (inr refl)
+  no_unbuilt : {C : Type 0} (t : ℕ) (word : EndWord) → EndsAfter schedule boot t word → Caused asked before after (Unbuilt parts.Call) → C
+  no_unbuilt t word ends ran =
+      let did = moved (λ plan boot. StopsAtCall (schedule_of plan) boot before.outlets.streams after.outlets.streams × (after.outlets.files ≡ before.outlets.files)) ran in
+      absurd (no_call schedule boot t did.0.turns word ends (comes did.0))
 
-  -- words that are none of a command, and no others, are Usage
-  usage_only : (result : Ending) → Caused arguments before after result → named arguments ≡ None → result ≡ Usage
-  usage_only Done c e = none_some (named arguments) c.found.name e c.found.is_named
-  usage_only Spent c e = none_some (named arguments) c.found.name e c.found.is_named
+  no_end : {C : Type 0} (u : ℕ) (word : EndWord) → ComesToCall schedule boot u → Ran asked before after (Ended before.outlets after.outlets word) → C
+  no_end u word call ran =
+      let did : Ended before.outlets after.outlets word fine.plan boot = moved (Ended before.outlets after.outlets word) ran in
+      absurd (no_call schedule boot did.turns u word did.ends call)
+
+  module _ (depot : Calm before.depot_faults after.depot_faults) (input : Calm before.input_faults after.input_faults) (out : Calm before.stream_faults.out after.stream_faults.out) (err : Calm before.stream_faults.err after.stream_faults.err) where
+    no_rise : {C : Type 0} (b n : ℕ) → Calm b n → Rose b n → C
+    no_rise b n calm rose = absurd (Calm-not_rose b n calm rose)
+
+    end_is : (t : ℕ) (word : EndWord) → EndsAfter schedule boot t word → (result : Ending) → Caused asked before after result → (result ≡ ending_of word) ⊎ (result ≡ NoMemory)
+    end_is t word ends Done c = inl (word_is t word words.Done ends c)
+    end_is t word ends Spent c = inl (word_is t word words.Spent ends c)
+    end_is t word ends Stuck c = inl (word_is t word words.Stuck ends c)
+    end_is t word ends Usage c = none_some asked fine.name c.0 fine.is_asked
+    end_is t word ends (Missing name) c = no_missing name c
+    end_is t word ends (FileLong name) c = no_long name c
+    end_is t word ends (BadDesc flaw place) c = no_bad_desc flaw place c
+    end_is t word ends (BadImage fault) c = no_bad_image fault c
+    end_is t word ends InputFault c = no_rise before.input_faults after.input_faults input c.1
+    end_is t word ends InputLong c = no_long_input c
+    end_is t word ends DepotFault c = no_rise before.depot_faults after.depot_faults depot c.0
+    end_is t word ends (Unbuilt parts.Files) c = no_files c
+    end_is t word ends (Unbuilt parts.Call) c = no_unbuilt t word ends c
+    end_is t word ends OutFault c = no_rise before.stream_faults.out after.stream_faults.out out c.0
+    end_is t word ends ErrFault c = no_rise before.stream_faults.err after.stream_faults.err err c.0
+    end_is t word ends NoMemory c = inr refl
+
+    call_is : (u : ℕ) → ComesToCall schedule boot u → (result : Ending) → Caused asked before after result → (result ≡ Unbuilt parts.Call) ⊎ (result ≡ NoMemory)
+    call_is u call Done c = no_end u words.Done call c
+    call_is u call Spent c = no_end u words.Spent call c
+    call_is u call Stuck c = no_end u words.Stuck call c
+    call_is u call Usage c = none_some asked fine.name c.0 fine.is_asked
+    call_is u call (Missing name) c = no_missing name c
+    call_is u call (FileLong name) c = no_long name c
+    call_is u call (BadDesc flaw place) c = no_bad_desc flaw place c
+    call_is u call (BadImage fault) c = no_bad_image fault c
+    call_is u call InputFault c = no_rise before.input_faults after.input_faults input c.1
+    call_is u call InputLong c = no_long_input c
+    call_is u call DepotFault c = no_rise before.depot_faults after.depot_faults depot c.0
+    call_is u call (Unbuilt parts.Files) c = no_files c
+    call_is u call (Unbuilt parts.Call) c = inl refl
+    call_is u call OutFault c = no_rise before.stream_faults.out after.stream_faults.out out c.0
+    call_is u call ErrFault c = no_rise before.stream_faults.err after.stream_faults.err err c.0
+    call_is u call NoMemory c = inr refl
+
+-- a count that stays calm stayed so up to each moment
+calm_before : (b m n : ℕ) → m ≤ n → Calm b n → Calm b m
+calm_before b m n low calm = omega (arith, low, calm)
+
+-- The answer by what was fine, where `after` is the world at the ending and `world` the one behind its line.
+pub complete : (asked : Option (List ℕ)) (before after world : Outside) (result : Ending) → after.depot_faults ≡ world.depot_faults → after.input_faults ≡ world.input_faults → after.stream_faults.out ≡ world.stream_faults.out → after.stream_faults.err ≤ world.stream_faults.err → Caused asked before after result → Complete asked before world result
+complete asked before after world result depot input out err c = record {
+  ended = λ fine t word ends.
+      end_is asked before after world fine
+      (subst (Calm before.depot_faults) (sym depot) fine.depot_calm) (subst (Calm before.input_faults) (sym input) fine.input_calm) (subst (Calm before.stream_faults.out) (sym out) fine.out_calm) (calm_before before.stream_faults.err after.stream_faults.err world.stream_faults.err err fine.err_calm)
+      t word ends result c;
+  unbuilt = λ fine u call.
+      call_is asked before after world fine
+      (subst (Calm before.depot_faults) (sym depot) fine.depot_calm) (subst (Calm before.input_faults) (sym input) fine.input_calm) (subst (Calm before.stream_faults.out) (sym out) fine.out_calm) (calm_before before.stream_faults.err after.stream_faults.err world.stream_faults.err err fine.err_calm)
+      u call result c;
+}
+
+-- ---- refusals
+
+module _ (asked : Option (List ℕ)) (before after : Outside) (files : Files) (input : List ℕ) (tells : before.outlets.files ≡ Some files) (tells_input : before.input ≡ Some input) where
+  -- each step, where it goes on
+  found_refusal : (found : Found asked before) → refusal asked files input ≡ read_refusal files input (described found.bytes)
+  found_refusal found =
+      ap (λ (asked : Option (List ℕ)). refusal asked files input) found.is_asked
+      ∙ ap (desc_refusal files input found.name) (has before.outlets.files files found.name (Some found.bytes) tells found.there)
+      ∙ ap (λ (b : Bool). cond b (Some (FileLong found.name)) (read_refusal files input (described found.bytes))) (le-ltb longest (length found.bytes) found.fits)
+
+  planned_refusal : (planned : Planned asked before) → refusal asked files input ≡ init_refusal input planned.plan.init (files planned.plan.init)
+  planned_refusal planned = found_refusal planned.found ∙ ap (read_refusal files input) planned.reads ∙ ap (plan_refusal files input planned.plan) planned.built
+
+  loaded_refusal : (loaded : Loaded asked before) → refusal asked files input ≡ image_refusal loaded.image input
+  loaded_refusal loaded =
+      planned_refusal loaded.planned
+      ∙ ap (init_refusal input loaded.planned.plan.init) (has before.outlets.files files loaded.planned.plan.init (Some loaded.image) tells loaded.there)
+      ∙ ap (λ (b : Bool). cond b (Some (FileLong loaded.planned.plan.init)) (image_refusal loaded.image input)) (le-ltb longest (length loaded.image) loaded.fits)
+
+  fed_refusal : (fed : Fed asked before after) → refusal asked files input ≡ option_map BadImage (first_fault fed.loaded.image)
+  fed_refusal fed =
+      let same : input ≡ fed.input = fed_is before.input after.input input fed.input tells_input fed.whole.gave fed.whole.dry in
+      let size : length input ≡ length fed.input = ap (λ (l : List ℕ). length l) same in
+      let within : length fed.input ≤ 16777216 = fed.whole.within in
+      let fits : length input ≤ 16777216 = omega (arith, size, within) in
+      loaded_refusal fed.loaded ∙ ap (λ (b : Bool). cond b (Some InputLong) (option_map BadImage (first_fault fed.loaded.image))) (le-ltb longest (length input) fits)
+
+  -- a run isn't refused
+  ran_not_refused : {C : Type 0} (Did : Plan → Kernel → Type 0) (ran : Ran asked before after Did) (first : Ending) → refusal asked files input ≡ Some first → C
+  ran_not_refused Did ran first e = none_some (refusal asked files input) first (fed_refusal ran.fed ∙ ap (option_map BadImage) ran.good) e
+
+  missing_refusal : (name : List ℕ) → Names asked before name → Has before.outlets.files name None → refusal asked files input ≡ Some (Missing name)
+  missing_refusal name (inl is) there =
+      ap (λ (asked : Option (List ℕ)). refusal asked files input) is
+      ∙ ap (desc_refusal files input name) (has before.outlets.files files name None tells there)
+  missing_refusal name (inr planned) there =
+      planned_refusal planned.0
+      ∙ ap (λ (n : List ℕ). init_refusal input n (files n)) planned.1
+      ∙ ap (init_refusal input name) (has before.outlets.files files name None tells there)
+
+  long_refusal : (name bytes : List ℕ) → Names asked before name → Has before.outlets.files name (Some bytes) → longest < length bytes → refusal asked files input ≡ Some (FileLong name)
+  long_refusal name bytes (inl is) there long =
+      ap (λ (asked : Option (List ℕ)). refusal asked files input) is
+      ∙ ap (desc_refusal files input name) (has before.outlets.files files name (Some bytes) tells there)
+      ∙ ap (λ (b : Bool). cond b (Some (FileLong name)) (read_refusal files input (described bytes))) (lt-ltb longest (length bytes) long)
+  long_refusal name bytes (inr planned) there long =
+      planned_refusal planned.0
+      ∙ ap (λ (n : List ℕ). init_refusal input n (files n)) planned.1
+      ∙ ap (init_refusal input name) (has before.outlets.files files name (Some bytes) tells there)
+      ∙ ap (λ (b : Bool). cond b (Some (FileLong name)) (image_refusal bytes input)) (lt-ltb longest (length bytes) long)
+
+  some_file : (plan : Plan) (listed : List FileFrom) → 0 < length listed → plan_refusal files input plan listed ≡ Some (Unbuilt parts.Files)
+  some_file plan [] some = absurd (omega arith)
+  some_file plan (file ∷ rest) some = refl
+
+  first_is : (result first : Ending) → refusal asked files input ≡ Some result → refusal asked files input ≡ Some first → (result ≡ first) ⊎ ((result ≡ DepotFault) ⊎ ((result ≡ InputFault) ⊎ (result ≡ NoMemory)))
+  first_is result first e f = inl (same_some (refusal asked files input) result first e f)
+
+  refused_with : (first : Ending) → refusal asked files input ≡ Some first → (result : Ending) → Caused asked before after result → (result ≡ first) ⊎ ((result ≡ DepotFault) ⊎ ((result ≡ InputFault) ⊎ (result ≡ NoMemory)))
+  refused_with first e Done c = ran_not_refused _ c first e
+  refused_with first e Spent c = ran_not_refused _ c first e
+  refused_with first e Stuck c = ran_not_refused _ c first e
+  refused_with first e Usage c = first_is Usage first (ap (λ (asked : Option (List ℕ)). refusal asked files input) c.0) e
+  refused_with first e (Missing name) c = first_is (Missing name) first (missing_refusal name c.0 c.1) e
+  refused_with first e (FileLong name) c = first_is (FileLong name) first (long_refusal name c.0 c.1 c.2 c.3) e
+  refused_with first e (BadDesc flaw place) c = first_is (BadDesc flaw place) first (found_refusal c.0 ∙ ap (read_refusal files input) c.1) e
+  refused_with first e (BadImage fault) c = first_is (BadImage fault) first (fed_refusal c.0 ∙ ap (option_map BadImage) c.1) e
+  refused_with first e InputFault c = inr (inr (inl refl))
+  refused_with first e InputLong c =
+      let long : longest < length input = subst (λ (told : Option (List ℕ)). IsLonger longest told) tells_input c.1 in
+      first_is InputLong first (loaded_refusal c.0 ∙ ap (λ (b : Bool). cond b (Some InputLong) (option_map BadImage (first_fault c.0.image))) (lt-ltb longest (length input) long)) e
+  refused_with first e DepotFault c = inr (inl refl)
+  refused_with first e (Unbuilt parts.Files) c = first_is (Unbuilt parts.Files) first (found_refusal c.0 ∙ ap (read_refusal files input) c.2 ∙ some_file c.1 c.1.files c.3) e
+  refused_with first e (Unbuilt parts.Call) c = ran_not_refused _ c first e
+  refused_with first e OutFault c = ran_not_refused _ c.1 first e
+  refused_with first e ErrFault c = ran_not_refused _ c.1 first e
+  refused_with first e NoMemory c = inr (inr (inr refl))
+
+pub refused : (asked : Option (List ℕ)) (before after : Outside) (result : Ending) → Caused asked before after result → Refused asked before result
+refused asked before after result c files tells input tells_input first e = refused_with asked before after files input tells tells_input first e result c
+
+-- ---- words that are none of a command, and no others, are Usage
+
+module _ (asked : Option (List ℕ)) (before after : Outside) where
+  found_some : {C : Type 0} → asked ≡ None → Found asked before → C
+  found_some e found = none_some asked found.name e found.is_asked
+
+  named_some : {C : Type 0} (name : List ℕ) → asked ≡ None → Names asked before name → C
+  named_some name e (inl is) = none_some asked name e is
+  named_some name e (inr planned) = found_some e planned.0.found
+
+  usage_only : (result : Ending) → Caused asked before after result → asked ≡ None → result ≡ Usage
+  usage_only Done c e = found_some e c.fed.loaded.planned.found
+  usage_only Spent c e = found_some e c.fed.loaded.planned.found
+  usage_only Stuck c e = found_some e c.fed.loaded.planned.found
   usage_only Usage c e = refl
-  usage_only (Missing name) c e = none_some (named arguments) name e c.0
-  usage_only (FileLong name) c e = none_some (named arguments) name e c.1
-  usage_only DepotFault c e = none_some (named arguments) c.0 e c.1
-  usage_only (BadImage fault) c e = none_some (named arguments) c.0.found.name e c.0.found.is_named
-  usage_only (Unbuilt part) c e = none_some (named arguments) c.found.name e c.found.is_named
-  usage_only OutFault c e = none_some (named arguments) c.1.found.name e c.1.found.is_named
-  usage_only NoMemory (inl c) e = none_some (named arguments) c.0 e c.1
-  usage_only NoMemory (inr c) e = none_some (named arguments) c.found.name e c.found.is_named
+  usage_only (Missing name) c e = named_some name e c.0
+  usage_only (FileLong name) c e = named_some name e c.1
+  usage_only (BadDesc flaw place) c e = found_some e c.0
+  usage_only (BadImage fault) c e = found_some e c.0.loaded.planned.found
+  usage_only InputFault c e = found_some e c.0.planned.found
+  usage_only InputLong c e = found_some e c.0.planned.found
+  usage_only DepotFault (rose, inl c) e = none_some asked c.0 e c.1
+  usage_only DepotFault (rose, inr c) e = found_some e c.fed.loaded.planned.found
+  usage_only (Unbuilt parts.Files) c e = found_some e c.0
+  usage_only (Unbuilt parts.Call) c e = found_some e c.fed.loaded.planned.found
+  usage_only OutFault c e = found_some e c.1.fed.loaded.planned.found
+  usage_only ErrFault c e = found_some e c.1.fed.loaded.planned.found
+  usage_only NoMemory (inl c) e = none_some asked c.0 e c.1
+  usage_only NoMemory (inr c) e = found_some e c.fed.loaded.planned.found
 
-  pub usage_exactly : (result : Ending) → Caused arguments before after result → (result ≡ Usage) ↔ (named arguments ≡ None)
-  usage_exactly result c = ((λ e. let cause : Caused arguments before after Usage = subst (λ (result : Ending). Caused arguments before after result) e c in cause.0), usage_only result c)
+  pub usage_exactly : (result : Ending) → Caused asked before after result → (result ≡ Usage) ↔ (asked ≡ None)
+  usage_exactly result c = ((λ e. let cause : Caused asked before after Usage = subst (λ (result : Ending). Caused asked before after result) e c in cause.0), usage_only result c)

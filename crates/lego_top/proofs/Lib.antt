@@ -1,4 +1,6 @@
 pub mod Lines
-pub mod Ran
 pub mod Causes
+pub mod Leaving
+pub mod Limits
 pub mod Exact
+pub mod Commanding

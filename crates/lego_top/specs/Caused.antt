@@ -1,50 +1,70 @@
--- The causes of endings, and what each leaves. The words of the command line, what the depot tells, and the
--- flat run of the image decide; only want of memory has no cause.
-use Rattle.std.specs.Prelude.{◌≡◌, ℕ, ◌<◌, ◌≤◌, ◌⊎◌, List, length, Option, Some, None}
+-- The causes of endings, and what each leaves. The words of the command line, what the depot and standard input tell,
+-- and the flat run decide; only want of memory has no cause.
+use Rattle.std.specs.Prelude.{◌≡◌, ℕ, ◌<◌, ◌⊎◌, List, length, Option, Some, None, Ok}
+use Rattle.lego_base.specs.declared.report.EndWord.{EndWord}
 use Rattle.lego_base.specs.declared.report.EndWord.TheVariants as words
 use Rattle.host_io.specs.Counts.{Rose}
-use Rattle.host_io.specs.Depots.{Files, Has}
+use Rattle.host_io.specs.Depots.{Has}
+use Rattle.host_io.specs.Sources.{IsLonger}
+use Rattle.desc_read.specs.declared.plan.Plan.{Plan}
+use Rattle.desc_read.specs.Faults.{refused}
+use Rattle.desc_read.specs.Plans.{described}
 use Rattle.elf_image.specs.Image.{first_fault}
+use Rattle.kernel_model.specs.State as streams
+use Rattle.kernel_model.specs.State.{Kernel, Stream}
+use Rattle.kernel_model.specs.Turns.{flat}
+use Rattle.plain_kernel.specs.Outcomes.{Took}
+use Rattle.plain_kernel.specs.Runs.{schedule_of, EndsAfter, Stops, StopsAtCall, Cuts}
 use Rattle.lego_top.specs.declared.ending.Ending.{Ending}
-use Rattle.lego_top.specs.declared.ending.Ending.TheVariants.{Done, Spent, Usage, Missing, FileLong, DepotFault, BadImage, Unbuilt, OutFault, NoMemory}
-use Rattle.lego_top.specs.Words.{named}
-use Rattle.lego_top.specs.ImageRun.{Ends, Stops, StopsAtCall, Cuts}
+use Rattle.lego_top.specs.declared.ending.Ending.TheVariants.{Done, Spent, Stuck, Usage, Missing, FileLong, BadDesc, BadImage, InputFault, InputLong, DepotFault, Unbuilt, OutFault, ErrFault, NoMemory}
+use Rattle.lego_top.specs.declared.ending.Part.TheVariants as parts
+use Rattle.lego_top.specs.Outside.{Outlets, Outside, Quiet, longest}
+use Rattle.lego_top.specs.Accepted.{Found, Names, Loaded, Fed, Ran}
+use Rattle.lego_top.specs.Put.{report_in, archive_in, PutBoth, PutPart}
 
--- what the depot and standard output tell, and their counts of faults
-pub record Outside : Type 0 where
-  pub files : Option Files
-  pub depot_faults : ℕ
-  pub out : Option (List ℕ)
-  pub out_faults : ℕ
+-- The flat run ended so, the streams took what it wrote, and its report and archive were put.
+pub record Ended (before after : Outlets) (word : EndWord) (plan : Plan) (boot : Kernel) : Type 0 where
+  pub turns : ℕ
+  pub ends : EndsAfter (schedule_of plan) boot turns word
+  pub took : Took before.streams after.streams (flat (schedule_of plan) boot turns).written
+  pub put : PutBoth plan (report_in word turns (flat (schedule_of plan) boot turns)) (archive_in (flat (schedule_of plan) boot turns)) before.files after.files
 
-abbrev pub outside : Option Files → ℕ → Option (List ℕ) → ℕ → Outside
-outside files depot_faults out out_faults = record { files = files; depot_faults = depot_faults; out = out; out_faults = out_faults }
+-- It ended, and the depot failed at the report or at the archive.
+pub record EndedUnput (before after : Outlets) (plan : Plan) (boot : Kernel) : Type 0 where
+  pub word : EndWord
+  pub turns : ℕ
+  pub ends : EndsAfter (schedule_of plan) boot turns word
+  pub took : Took before.streams after.streams (flat (schedule_of plan) boot turns).written
+  pub put : PutPart plan (report_in word turns (flat (schedule_of plan) boot turns)) before.files after.files
 
--- a file has at most so many bytes
-abbrev pub longest : ℕ
-longest = 16777216
+-- one stream failed within a turn
+abbrev pub Cut : Outlets → Outlets → Stream → Plan → Kernel → Type 0
+Cut before after stream plan boot = Cuts (schedule_of plan) boot stream before.streams after.streams × (after.files ≡ before.files)
 
--- The words name a file, which the depot has.
-pub record Found (arguments : List (List ℕ)) (before : Outside) : Type 0 where
-  pub name : List ℕ
-  pub bytes : List ℕ
-  pub is_named : named arguments ≡ Some name
-  pub there : Has before.files name (Some bytes)
+abbrev pub Stopped : Outlets → Outlets → Plan → Kernel → Type 0
+Stopped before after plan boot = Stops (schedule_of plan) boot before.streams after.streams × (after.files ≡ before.files)
 
--- The file isn't too long, and this was done with its bytes.
-pub record Began (arguments : List (List ℕ)) (before : Outside) (Did : List ℕ → Type 0) : Type 0 where
-  pub found : Found arguments before
-  pub fits : length found.bytes ≤ longest
-  pub did : Did found.bytes
+abbrev pub StoppedAtCall : Outlets → Outlets → Plan → Kernel → Type 0
+StoppedAtCall before after plan boot = StopsAtCall (schedule_of plan) boot before.streams after.streams × (after.files ≡ before.files)
 
-abbrev pub Caused : List (List ℕ) → Outside → Outside → Ending → Type 0
-Caused arguments before after Done = Began arguments before (λ bytes. Ends bytes before.out after.out words.Done)
-Caused arguments before after Spent = Began arguments before (λ bytes. Ends bytes before.out after.out words.Spent)
-Caused arguments before after Usage = (named arguments ≡ None) × (after.out ≡ before.out)
-Caused arguments before after (Missing name) = (named arguments ≡ Some name) × Has before.files name None × (after.out ≡ before.out)
-Caused arguments before after (FileLong name) = (bytes : List ℕ) × (named arguments ≡ Some name) × Has before.files name (Some bytes) × (longest < length bytes) × (after.out ≡ before.out)
-Caused arguments before after DepotFault = (name : List ℕ) × (named arguments ≡ Some name) × Rose before.depot_faults after.depot_faults × (after.out ≡ before.out)
-Caused arguments before after (BadImage fault) = Began arguments before (λ bytes. first_fault bytes ≡ Some fault) × (after.out ≡ before.out)
-Caused arguments before after (Unbuilt part) = Began arguments before (λ bytes. StopsAtCall bytes before.out after.out)
-Caused arguments before after OutFault = Rose before.out_faults after.out_faults × Began arguments before (λ bytes. Cuts bytes before.out after.out)
-Caused arguments before after NoMemory = ((name : List ℕ) × (named arguments ≡ Some name) × (after.out ≡ before.out)) ⊎ Began arguments before (λ bytes. Stops bytes before.out after.out)
+-- the words name a description, and nothing was written or put
+abbrev pub Unbegun : Option (List ℕ) → Outside → Outside → Type 0
+Unbegun asked before after = (name : List ℕ) × (asked ≡ Some name) × Quiet before after
+
+abbrev pub Caused : Option (List ℕ) → Outside → Outside → Ending → Type 0
+Caused asked before after Done = Ran asked before after (Ended before.outlets after.outlets words.Done)
+Caused asked before after Spent = Ran asked before after (Ended before.outlets after.outlets words.Spent)
+Caused asked before after Stuck = Ran asked before after (Ended before.outlets after.outlets words.Stuck)
+Caused asked before after Usage = (asked ≡ None) × Quiet before after × (after.input ≡ before.input)
+Caused asked before after (Missing name) = Names asked before name × Has before.outlets.files name None × Quiet before after × (after.input ≡ before.input)
+Caused asked before after (FileLong name) = (bytes : List ℕ) × Names asked before name × Has before.outlets.files name (Some bytes) × (longest < length bytes) × Quiet before after × (after.input ≡ before.input)
+Caused asked before after (BadDesc flaw place) = (f : Found asked before) × (described f.bytes ≡ refused flaw place) × Quiet before after × (after.input ≡ before.input)
+Caused asked before after (Unbuilt parts.Files) = (f : Found asked before) × (plan : Plan) × (described f.bytes ≡ Ok plan) × (0 < length plan.files) × Quiet before after × (after.input ≡ before.input)
+Caused asked before after InputFault = Loaded asked before × Rose before.input_faults after.input_faults × Quiet before after
+Caused asked before after InputLong = Loaded asked before × IsLonger longest before.input × Quiet before after
+Caused asked before after (BadImage fault) = (fed : Fed asked before after) × (first_fault fed.loaded.image ≡ Some fault) × Quiet before after
+Caused asked before after (Unbuilt parts.Call) = Ran asked before after (StoppedAtCall before.outlets after.outlets)
+Caused asked before after OutFault = Rose before.stream_faults.out after.stream_faults.out × Ran asked before after (Cut before.outlets after.outlets streams.Out)
+Caused asked before after ErrFault = Rose before.stream_faults.err after.stream_faults.err × Ran asked before after (Cut before.outlets after.outlets streams.Err)
+Caused asked before after DepotFault = Rose before.depot_faults after.depot_faults × (Unbegun asked before after ⊎ Ran asked before after (EndedUnput before.outlets after.outlets))
+Caused asked before after NoMemory = Unbegun asked before after ⊎ Ran asked before after (Stopped before.outlets after.outlets)

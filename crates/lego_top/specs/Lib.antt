@@ -1,6 +1,10 @@
 pub mod Words
 pub mod Endings
+pub mod Outside
+pub mod Accepted
+pub mod Put
 pub mod Caused
 pub mod Said
-pub mod ImageRun
 pub mod Decided
+pub mod Looked
+pub mod Left

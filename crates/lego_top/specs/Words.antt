@@ -10,7 +10,7 @@ is_depot_name name = nat_lt 0 (length name) && nat_le (length name) 255 && not (
 abbrev pub named_by : List ℕ → List ℕ → Option (List ℕ)
 named_by command name = if bytes_eq command (codes "plain") && is_depot_name name then Some name else None
 
--- the name in the words `plain NAME`; all other words are none of a command
+-- the description that the words `plain DESC` name; all other words are none of a command
 abbrev pub named : List (List ℕ) → Option (List ℕ)
 named [] = None
 named (command ∷ []) = None

@@ -1,15 +1,16 @@
-//! The one call that the program makes: `lego_main` takes the words of the command line and the outside
-//! world, runs an image, and answers how that ended.
+//! The call that the program makes, [`lego_main`]: it reads the words, a description and the program that it names from
+//! the depot, and standard input to its end, runs the program on the plain kernel, and leaves a report and an archive.
 //!
-//! Its model is the flat run of kernel_model on the image that the depot has. The promise is stated at
-//! `lego_main`, by the words of `specs/Caused`: each ending with its cause, and what it leaves on standard
-//! output and standard error.
+//! Its contract is the theorem: what standard output and standard error hold, what the depot has and which ending comes
+//! are those of the flat run of kernel_model. `specs/Caused` has the cause of each ending and what it leaves,
+//! `specs/Decided` when each comes.
 #![tactic(auto)]
 
-mod ending; // how a run ended, its status and its line
-mod image_run; // an image on the plain machine
-mod line; // the line that says how a run ended
-mod top; // the top call
+mod described; // descriptions and files from the depot
+mod ending; // how a call ends
+mod line; // what is said of an ending
+mod ran; // the run, and what it leaves
+mod top; // the call
 mod words; // the command line
 
 pub use ending::{Ending, Part};

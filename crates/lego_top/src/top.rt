@@ -1,23 +1,22 @@
-ghost use Rattle.std.specs.Prelude.{◌≡◌, ◌↔◌, None, map, string_bytes};
-ghost use Rattle.lego_top.specs.Caused.{Caused, outside};
+ghost use Rattle.std.specs.Prelude.{◌≡◌, ◌≤◌, ◌↔◌, None, map, string_bytes};
+ghost use Rattle.plain_kernel.specs.Outcomes.{told, faults, Later};
+ghost use Rattle.lego_top.specs.Caused.{Caused};
 ghost use Rattle.lego_top.specs.Decided.{Complete, Refused};
-ghost use Rattle.lego_top.specs.Endings.{line_of};
-ghost use Rattle.lego_top.specs.Said.{Said};
+ghost use Rattle.lego_top.specs.Outside.{outlets, outside};
+ghost use Rattle.lego_top.specs.Said.{Answered};
 ghost use Rattle.lego_top.specs.Words.{named};
 
+use crate::described::{LONGEST, described, fetch};
 use crate::ending::Ending;
-use crate::image_run::run_image;
 use crate::line::say;
-use crate::words::named_image;
-use host_io::{Depot, Got, Sink, Source};
-use lego_base::Text;
+use crate::ran::run_program;
+use crate::words::named_description;
+use host_io::{Depot, InputStop, Sink, Source, read_all};
 use std::alloc::Global;
 
-/// The longest file, in bytes.
-const LONGEST: usize = 16_777_216;
-
-/// Runs the command in the words. `plain NAME` runs the image that the depot has under NAME on the plain
-/// kernel; the input isn't read. Says on standard error why it ended otherwise than the program wanted.
+/// Runs the command in the words. `plain DESC` runs the program of the description that the depot has under
+/// DESC on the plain kernel, with all of the input, and puts its report and its archive. Says on standard
+/// error why it ended otherwise than the program wanted.
 pub fn lego_main<S: Source, O: Sink, E: Sink, D: Depot>(
     alloc: Global,
     words: &[String],
@@ -26,50 +25,49 @@ pub fn lego_main<S: Source, O: Sink, E: Sink, D: Depot>(
     err: &mut E,
     depot: &mut D,
 ) -> Ending
-    // Each ending has its cause, and leaves on standard output what the flat run has written.
-    ensures caused { Caused (map string_bytes words.now) (outside (D.files depot.old) (D.faults depot.old) (O.held out.old) (O.faults out.old)) (outside (D.files depot.new) (D.faults depot.new) (O.held out.new) (O.faults out.new)) result }
+    // Each ending has its cause, and leaves in the depot and on the two streams what the flat run has written,
+    // with the ending's line behind it.
+    ensures answered { Answered (named (map string_bytes words.now)) (outside (outlets (D.files depot.old) (told (O.held out.old) (E.held err.old))) (D.faults depot.old) (faults (O.faults out.old) (E.faults err.old)) (S.left input.old) (S.faults input.old)) (outside (outlets (D.files depot.new) (told (O.held out.new) (E.held err.new))) (D.faults depot.new) (faults (O.faults out.new) (E.faults err.new)) (S.left input.new) (S.faults input.new)) result }
 
     // Words of no command, and no others, are Usage. What is to be refused is refused. A program that comes to
     // its end, or to a call that isn't built, is answered so.
     ensures usage { (result ≡ Ending.Usage) ↔ (named (map string_bytes words.now) ≡ None) }
-    ensures refused { Refused (map string_bytes words.now) (outside (D.files depot.old) (D.faults depot.old) (O.held out.old) (O.faults out.old)) result }
-    ensures complete { Complete (map string_bytes words.now) (outside (D.files depot.old) (D.faults depot.old) (O.held out.old) (O.faults out.old)) (outside (D.files depot.new) (D.faults depot.new) (O.held out.new) (O.faults out.new)) result }
-
-    // Standard error has the ending's line.
-    ensures said { Said (E.held err.old) (E.held err.new) (E.faults err.old) (E.faults err.new) (line_of result) }
-
-    // The depot stays, and so does the input.
-    ensures depot { D.files depot.new ≡ D.files depot.old }
-    ensures input { S.left input.new ≡ S.left input.old }
+    ensures refused { Refused (named (map string_bytes words.now)) (outside (outlets (D.files depot.old) (told (O.held out.old) (E.held err.old))) (D.faults depot.old) (faults (O.faults out.old) (E.faults err.old)) (S.left input.old) (S.faults input.old)) result }
+    ensures complete { Complete (named (map string_bytes words.now)) (outside (outlets (D.files depot.old) (told (O.held out.old) (E.held err.old))) (D.faults depot.old) (faults (O.faults out.old) (E.faults err.old)) (S.left input.old) (S.faults input.old)) (outside (outlets (D.files depot.new) (told (O.held out.new) (E.held err.new))) (D.faults depot.new) (faults (O.faults out.new) (E.faults err.new)) (S.left input.new) (S.faults input.new)) result }
 {
-    let ending = command(alloc, words, out, depot);
+    let ending = command(alloc, words, input, out, err, depot);
     let _ = say(err, &ending);
     ending
 }
 
 // The command in the words, but for the line.
-fn command<O: Sink, D: Depot>(alloc: Global, words: &[String], out: &mut O, depot: &mut D) -> Ending
-    ensures caused { Caused (map string_bytes words.now) (outside (D.files depot.old) (D.faults depot.old) (O.held out.old) (O.faults out.old)) (outside (D.files depot.new) (D.faults depot.new) (O.held out.new) (O.faults out.new)) result }
-    ensures depot { D.files depot.new ≡ D.files depot.old }
+fn command<S: Source, O: Sink, E: Sink, D: Depot>(
+    alloc: Global,
+    words: &[String],
+    input: &mut S,
+    out: &mut O,
+    err: &mut E,
+    depot: &mut D,
+) -> Ending
+    ensures caused { Caused (named (map string_bytes words.now)) (outside (outlets (D.files depot.old) (told (O.held out.old) (E.held err.old))) (D.faults depot.old) (faults (O.faults out.old) (E.faults err.old)) (S.left input.old) (S.faults input.old)) (outside (outlets (D.files depot.new) (told (O.held out.new) (E.held err.new))) (D.faults depot.new) (faults (O.faults out.new) (E.faults err.new)) (S.left input.new) (S.faults input.new)) result }
 {
-    let name = match named_image(words) {
+    let name = match named_description(words) {
         Some(name) => name,
         None => return Ending::Usage,
     };
-    let bytes = match depot.get(alloc, name) {
-        Got::Found(bytes) => bytes,
-        Got::Missing => match Text::from_str(alloc, name) {
-            Ok(name) => return Ending::Missing { name },
-            Err(_) => return Ending::NoMemory,
-        },
-        Got::Failed => return Ending::DepotFault,
-        Got::NoMemory => return Ending::NoMemory,
+    let plan = match described(alloc, depot, name) {
+        Ok(plan) => plan,
+        Err(ending) => return ending,
     };
-    if bytes.len() > LONGEST {
-        match Text::from_str(alloc, name) {
-            Ok(name) => return Ending::FileLong { name },
-            Err(_) => return Ending::NoMemory,
-        }
-    }
-    run_image(alloc, bytes.as_slice(), out)
+    let program = match fetch(alloc, depot, plan.init.as_str()) {
+        Ok(program) => program,
+        Err(ending) => return ending,
+    };
+    let bytes = match read_all(alloc, input, LONGEST) {
+        Ok(bytes) => bytes,
+        Err(InputStop::Failed) => return Ending::InputFault,
+        Err(InputStop::Long) => return Ending::InputLong,
+        Err(InputStop::NoMemory) => return Ending::NoMemory,
+    };
+    run_program(alloc, &plan, program.as_slice(), bytes, out, err, depot)
 }

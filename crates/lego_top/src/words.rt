@@ -1,8 +1,8 @@
 ghost use Rattle.std.specs.Prelude.{◌≡◌, map, string_bytes, Some, None, MatchOption};
 ghost use Rattle.lego_top.specs.Words.{is_depot_name, named};
 
-/// The name in the words `plain NAME`; `None` where the words are others.
-pub fn named_image(words: &[String]) -> Option<&str>
+/// The description's name in the words `plain DESC`; `None` where the words are others.
+pub fn named_description(words: &[String]) -> Option<&str>
     ensures { MatchOption result (named (map string_bytes words.now) ≡ None) (λ name. named (map string_bytes words.now) ≡ Some name.now) }
 {
     match words {

@@ -4,3 +4,4 @@ pub mod Made
 pub mod Turned
 pub mod Runs
 pub mod Loading
+pub mod Going

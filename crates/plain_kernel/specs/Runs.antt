@@ -1,40 +1,74 @@
--- What a whole run of the machine did, by the flat run.
-use Rattle.std.specs.Prelude.{◌≡◌, ℕ, suc, ◌<◌, ◌≤◌, false, List, [], ◌∷◌, Option, Some, None, Result, Ok, Err}
-use Rattle.lego_base.specs.declared.report.Ended.{Ended}
+-- What a whole run did to its two streams, by the flat run.
+use Rattle.std.specs.Prelude.{◌≡◌, ℕ, suc, ◌<◌, ◌≤◌, true, false, List, ◌++◌, length, Some, None, Result, Ok, Err}
+use Rattle.lego_base.specs.declared.report.EndWord.{EndWord}
 use Rattle.lego_base.specs.declared.stops.CallStop.{CallStop}
-use Rattle.kernel_model.specs.State.{Kernel}
-use Rattle.kernel_model.specs.Effects.{applies}
-use Rattle.kernel_model.specs.Turns.{Plan, turn, flat, ended, is_unbuilt_turn}
-use Rattle.plain_kernel.specs.Outcomes.{Wrote, Stopped}
+use Rattle.lego_base.specs.declared.stops.CallStop.TheVariants.{Halt, OutFault, ErrFault, Unbuilt}
+use Rattle.desc_read.specs.declared.plan.Plan.{Plan}
+use Rattle.kernel_model.specs.State as streams
+use Rattle.kernel_model.specs.State.{Kernel, Stream, on, joined}
+use Rattle.kernel_model.specs.Turns.{Schedule, flat, ended, is_unbuilt_turn}
+use Rattle.plain_kernel.specs.declared.run.PlainEnd.{PlainEnd}
+use Rattle.plain_kernel.specs.Outcomes.{Told, Took}
 
--- one process, so it has every turn
-abbrev pub plan_of : ℕ → ℕ → Plan
-plan_of quantum max_turns = record { turns = 0 ∷ []; quantum = quantum; max_turns = max_turns }
+-- the turns that a description asks for
+abbrev pub schedule_of : Plan → Schedule
+schedule_of plan = record { turns = plan.turns; quantum = plan.quantum; max_turns = plan.max_turns }
 
 -- the run goes on after so many turns, and its next turn comes to no call that isn't built
-pub record GoesOn (plan : Plan) (boot : Kernel) (turns : ℕ) : Type 0 where
-  pub not_ended : ended plan turns (flat plan boot turns) ≡ None
-  pub built : is_unbuilt_turn plan (suc turns) (flat plan boot turns) ≡ false
+pub record GoesOn (schedule : Schedule) (boot : Kernel) (turns : ℕ) : Type 0 where
+  pub not_ended : ended schedule turns (flat schedule boot turns) ≡ None
+  pub built : is_unbuilt_turn schedule (suc turns) (flat schedule boot turns) ≡ false
 
--- the run went to its end, after so many turns
-pub record Finished (told told' : Option (List ℕ)) (start now : List ℕ → Kernel) (plan : Plan) (end : Ended) : Type 0 where
-  pub few : end.turns ≤ plan.max_turns
-  pub wrote : Wrote told told' start now (λ k. flat plan k end.turns)
-  pub ends : (out : List ℕ) → ended plan end.turns (flat plan (start out) end.turns) ≡ Some end.word
-  pub before : (m : ℕ) → m < end.turns → (out : List ℕ) → GoesOn plan (start out) m
+-- The flat run on this kernel went through so many turns, and went on after each of those before.
+pub record Through (schedule : Schedule) (boot : Kernel) (turns : ℕ) : Type 0 where
+  pub few : turns ≤ schedule.max_turns
+  pub before : (m : ℕ) → m < turns → GoesOn schedule boot m
 
--- the run stopped in the turn after so many
-pub record Broken (told told' : Option (List ℕ)) (start : List ℕ → Kernel) (plan : Plan) (stop : CallStop) : Type 0 where
+-- It ends so after this many turns.
+pub record EndsAfter (schedule : Schedule) (boot : Kernel) (turns : ℕ) (word : EndWord) : Type 0 where
+  pub through : Through schedule boot turns
+  pub ends : ended schedule turns (flat schedule boot turns) ≡ Some word
+
+-- It goes into one turn more after so many.
+pub record GoesInto (schedule : Schedule) (boot : Kernel) (turns : ℕ) : Type 0 where
+  pub through : Through schedule boot turns
+  pub more : turns < schedule.max_turns
+  pub not_ended : ended schedule turns (flat schedule boot turns) ≡ None
+
+-- the flat run ended so, and the streams took what it wrote
+pub record Ends (schedule : Schedule) (boot : Kernel) (before after : Told) (end : PlainEnd) : Type 0 where
+  pub ends : EndsAfter schedule boot end.ended.turns end.ended.word
+  pub took : Took before after (flat schedule boot end.ended.turns).written
+  pub exits : end.exits ≡ (flat schedule boot end.ended.turns).exits
+  pub files : end.files ≡ (flat schedule boot end.ended.turns).files
+
+-- it stopped after so many turns: the streams have taken what the flat run wrote in these
+pub record Stops (schedule : Schedule) (boot : Kernel) (before after : Told) : Type 0 where
   pub turns : ℕ
-  pub few : turns < plan.max_turns
-  pub mid_told : Option (List ℕ)
-  pub mid : List ℕ → Kernel
-  pub mid_out : (out : List ℕ) → (mid out).out ≡ out
-  pub wrote : Wrote told mid_told start mid (λ k. flat plan k turns)
-  pub stopped : Stopped mid_told told' mid (λ k. applies (turn plan (suc turns) k) k) (is_unbuilt_turn plan (suc turns)) stop
-  pub not_ended : (out : List ℕ) → ended plan turns (flat plan (start out) turns) ≡ None
-  pub before : (m : ℕ) → m < turns → (out : List ℕ) → GoesOn plan (start out) m
+  pub through : Through schedule boot turns
+  pub took : Took before after (flat schedule boot turns).written
 
-abbrev pub Run : Option (List ℕ) → Option (List ℕ) → (List ℕ → Kernel) → (List ℕ → Kernel) → Plan → Result Ended CallStop → Type 0
-Run told told' start now plan (Ok end) = Finished told told' start now plan end
-Run told told' start now plan (Err stop) = Broken told told' start plan stop
+-- it stopped at a call that isn't built, in the turn after so many
+pub record StopsAtCall (schedule : Schedule) (boot : Kernel) (before after : Told) : Type 0 where
+  pub turns : ℕ
+  pub into : GoesInto schedule boot turns
+  pub took : Took before after (flat schedule boot turns).written
+  pub unbuilt : is_unbuilt_turn schedule (suc turns) (flat schedule boot turns) ≡ true
+
+-- it was cut by a fault of one stream, which has taken a proper prefix of what the turn writes besides
+pub record Cuts (schedule : Schedule) (boot : Kernel) (stream : Stream) (before after : Told) : Type 0 where
+  pub turns : ℕ
+  pub into : GoesInto schedule boot turns
+  pub front : List ℕ
+  pub rest : List ℕ
+  pub missing : 0 < length rest
+  pub took : Took before after (joined (flat schedule boot turns).written (on stream front))
+  pub whole : (flat schedule boot (suc turns)).written ≡ joined (flat schedule boot turns).written (on stream (front ++ rest))
+
+-- how a run on the kernel that was booted came out
+abbrev pub PlainRan : Schedule → Kernel → Told → Told → Result PlainEnd CallStop → Type 0
+PlainRan schedule boot before after (Ok end) = Ends schedule boot before after end
+PlainRan schedule boot before after (Err (Halt halt)) = Stops schedule boot before after
+PlainRan schedule boot before after (Err OutFault) = Cuts schedule boot streams.Out before after
+PlainRan schedule boot before after (Err ErrFault) = Cuts schedule boot streams.Err before after
+PlainRan schedule boot before after (Err Unbuilt) = StopsAtCall schedule boot before after

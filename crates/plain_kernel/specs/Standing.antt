@@ -2,7 +2,7 @@
 use Rattle.std.specs.Prelude.{ℕ, List, [], ◌∷◌, Option, Some, None}
 use Rattle.rv64_step.specs.declared.cpu.Cpu.{Cpu}
 use Rattle.flat_memory.specs.Spaces.{spaces_of}
-use Rattle.kernel_model.specs.State.{Kernel, Process, Live}
+use Rattle.kernel_model.specs.State.{Kernel, Process, Live, Written}
 use Rattle.plain_kernel.specs.declared.machine.Machine.{Machine}
 
 -- process 1, which has no parent
@@ -13,6 +13,6 @@ abbrev pub processes : Option Cpu → List Process
 processes None = []
 processes (Some cpu) = first_process cpu ∷ []
 
--- the kernel that a machine stands for, where these bytes were written since the start
-abbrev pub kernel_of : Machine → List ℕ → Kernel
-kernel_of m out = record { procs = processes m.first; space = spaces_of m.memory; out = out; err = []; exits = m.exits }
+-- the kernel that a machine stands for, where this was written since the start
+abbrev pub kernel_of : Machine → Written → Kernel
+kernel_of m written = record { procs = processes m.first; space = spaces_of m.memory; files = m.files; input = m.input; written = written; exits = m.exits }

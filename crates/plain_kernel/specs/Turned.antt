@@ -1,9 +1,9 @@
 -- The parts of a turn.
-use Rattle.std.specs.Prelude.{◌≡◌, ℕ, Bool, List, Some}
+use Rattle.std.specs.Prelude.{◌≡◌, ℕ, Bool, Some}
 use Rattle.rv64_step.specs.declared.cpu.Cpu.{Cpu}
 use Rattle.rv64_step.specs.declared.cpu.StepEnd.{StepEnd}
 use Rattle.flat_memory.specs.Spaces.{spaces_of}
-use Rattle.kernel_model.specs.State.{Kernel}
+use Rattle.kernel_model.specs.State.{Kernel, Written}
 use Rattle.kernel_model.specs.Effects.{applies}
 use Rattle.kernel_model.specs.Instructions.{Ran, many}
 use Rattle.kernel_model.specs.Calls.{the_row, called, is_unbuilt}
@@ -20,7 +20,7 @@ pub record Instructed (old new : Machine) (cpu : Cpu) (quantum : ℕ) (stop : St
   pub stops : (ran_by old cpu quantum).stop ≡ stop
   pub left : (ran_by old cpu quantum).cpu ≡ cpu'
   pub first : new.first ≡ Some cpu'
-  pub does : (out : List ℕ) → applies (ran_by old cpu quantum).effects (kernel_of old out) ≡ kernel_of new out
+  pub does : (written : Written) → applies (ran_by old cpu quantum).effects (kernel_of old written) ≡ kernel_of new written
 
 -- a call of process 1, and what follows it
 abbrev pub calls : Cpu → Kernel → Kernel

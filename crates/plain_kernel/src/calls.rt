@@ -1,10 +1,10 @@
-ghost use Rattle.std.specs.Prelude.{◌≡◌, ◌≤◌, Some, IfErr};
-ghost use Rattle.kernel_model.specs.Calls.{counted, exit_row};
+ghost use Rattle.std.specs.Prelude.{◌≡◌, Some, IfErr};
+ghost use Rattle.kernel_model.specs.Calls.{exit_row};
 ghost use Rattle.plain_kernel.specs.Made.{end_of};
 
 use crate::machine::{FIRST, Machine};
-use host_io::{Sink, write_all};
-use lego_base::{CallStop, MemStop};
+use host_io::Sink;
+use lego_base::CallStop;
 use rv64_step::Cpu;
 use std::alloc::Global;
 
@@ -17,12 +17,6 @@ pub enum CallEnd {
     Gone(u32),
 }
 
-/// A length above this counts as this.
-const MOST_BYTES: u64 = 16_777_216;
-
-/// The negative of EFAULT (14), as a word.
-const EFAULT: u64 = u64::MAX - 13;
-
 /// The registers of arguments and of the number of a call, as syscall(2) has them for RISC-V.
 const A0: u8 = 10;
 
@@ -32,70 +26,49 @@ const A2: u8 = 12;
 
 const A7: u8 = 17;
 
+/// The parent of process 1: none.
+const NO_PARENT: u64 = 0;
+
 impl Machine {
-    ghost use Rattle.kernel_model.specs.Calls.{write_row, the_row};
+    ghost use Rattle.kernel_model.specs.Calls.{the_row};
     ghost use Rattle.plain_kernel.specs.Standing.{kernel_of};
-    ghost use Rattle.plain_kernel.specs.Outcomes.{Cause};
+    ghost use Rattle.plain_kernel.specs.Outcomes.{told, faults, Later, Cause};
     ghost use Rattle.plain_kernel.specs.Made.{Made};
 
     /// The call that process 1 makes with these registers, but for what it does to them.
-    pub fn call_row<O: Sink>(
-        &self,
+    pub fn call_row<O: Sink, E: Sink>(
+        &mut self,
         alloc: Global,
         cpu: &Cpu,
         out: &mut O,
+        err: &mut E,
     ) -> Result<CallEnd, CallStop>
-        ensures later { O.faults out.old ≤ O.faults out.new }
-        ensures cause { IfErr result (Cause (O.faults out.old) (O.faults out.new)) }
-        ensures made { Made (O.held out.old) (O.held out.new) (kernel_of self.now) (kernel_of self.now) (λ k. the_row 1 cpu.now k) result }
+        requires { self.old.first ≡ Some cpu.now }
+        ensures later { Later (faults (O.faults out.old) (E.faults err.old)) (faults (O.faults out.new) (E.faults err.new)) }
+        ensures cause { IfErr result (Cause (faults (O.faults out.old) (E.faults err.old)) (faults (O.faults out.new) (E.faults err.new))) }
+        ensures made { Made (told (O.held out.old) (E.held err.old)) (told (O.held out.new) (E.held err.new)) (kernel_of self.old) (kernel_of self.new) (λ k. the_row 1 cpu.now k) result }
+        ensures first { self.new.first ≡ self.old.first }
+        ensures files { self.new.files ≡ self.old.files }
     {
         match cpu.get(A7) {
-            64 => match self.write(alloc, cpu.get(A0), cpu.get(A1), cpu.get(A2), out) {
+            63 => match self.read(cpu.get(A0), cpu.get(A1), cpu.get(A2)) {
                 Ok(end) => Ok(end),
                 Err(stop) => Err(stop),
             },
-            93 => Ok(exit(cpu.get(A0))),
+            64 => match self.write(alloc, cpu.get(A0), cpu.get(A1), cpu.get(A2), out, err) {
+                Ok(end) => Ok(end),
+                Err(stop) => Err(stop),
+            },
+            93 => Ok(exit(cpu.get(A0))), // exit
+            94 => Ok(exit(cpu.get(A0))), // exit_group
+            96 => Ok(CallEnd::Value(FIRST.0 as u64)), // set_tid_address
+            124 => Ok(CallEnd::Value(0)), // sched_yield
+            172 => Ok(CallEnd::Value(FIRST.0 as u64)), // getpid
+            173 => Ok(CallEnd::Value(NO_PARENT)), // getppid
+            178 => Ok(CallEnd::Value(FIRST.0 as u64)), // gettid
             _ => Err(CallStop::Unbuilt),
         }
     }
-
-    // write(2), on standard output.
-    fn write<O: Sink>(
-        &self,
-        alloc: Global,
-        fd: u64,
-        addr: u64,
-        len: u64,
-        out: &mut O,
-    ) -> Result<CallEnd, CallStop>
-        ensures later { O.faults out.old ≤ O.faults out.new }
-        ensures cause { IfErr result (Cause (O.faults out.old) (O.faults out.new)) }
-        ensures made { Made (O.held out.old) (O.held out.new) (kernel_of self.now) (kernel_of self.now) (λ k. write_row 1 fd addr len k) result }
-    {
-        if fd != 1 {
-            return Err(CallStop::Unbuilt);
-        }
-        if len == 0 {
-            return Ok(CallEnd::Value(0));
-        }
-        let len = counted(len);
-        let bytes = match self.memory.copy_in(alloc, FIRST, addr, len) {
-            Ok(bytes) => bytes,
-            Err(MemStop::Segv) => return Ok(CallEnd::Value(EFAULT)),
-            Err(MemStop::Halt(halt)) => return Err(CallStop::Halt(halt)),
-        };
-        match write_all(out, bytes.as_slice()) {
-            Ok(()) => Ok(CallEnd::Value(len)),
-            Err(_) => Err(CallStop::OutFault),
-        }
-    }
-}
-
-// The length that counts.
-fn counted(len: u64) -> u64
-    ensures { result ≡ counted len }
-{
-    len.min(MOST_BYTES)
 }
 
 // exit(2): the status is the low byte of the code.

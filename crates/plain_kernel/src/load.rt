@@ -1,98 +1,101 @@
-ghost use Rattle.std.specs.Prelude.{◌≡◌, ◌+◌, ◌≤◌, ◌^◌, [], ◌∷◌, All, IfOk, OnOk};
+ghost use Rattle.std.specs.Prelude.{◌≡◌, ◌+◌, ◌≤◌, ◌^◌, ◌∷◌, length, replicate, IfOk, OnOk, All, false};
 ghost use Rattle.elf_image.specs.Image.{IsBoundedSegment};
-ghost use Rattle.space_rules.specs.Mapped.{union, with_pages, areas_of};
-ghost use Rattle.kernel_model.specs.Boot.{boot_of};
 ghost use Rattle.flat_memory.specs.Spaces.{spaces_of};
+ghost use Rattle.kernel_model.specs.Boot.{boot_of, loaded};
+ghost use Rattle.kernel_model.specs.State.{nothing};
+ghost use Rattle.lego_base.specs.Space.{no_space, with_space, with_bytes};
 ghost use Rattle.plain_kernel.specs.Loading.{filled};
+ghost use Rattle.space_rules.specs.Mapped.{image_areas_of};
+ghost use Rattle.space_rules.specs.Standing.{IsStack};
+ghost use Rattle.space_rules.specs.Start.{is_too_big};
 
+use crate::files::copy_files;
+use crate::input::Input;
 use crate::machine::{FIRST, Machine};
-use area_list::Areas;
-use bitflags::Flags;
 use elf_image::{Image, Segment};
 use flat_memory::FlatMemory;
-use lego_base::{NoMemory, PAGE_BYTES, Perms, Seq, Vpn};
+use lego_base::{Bytes, FileOut, NoMemory, Seq};
 use rv64_step::Cpu;
+use space_rules::{StackFault, StackImage, image_areas, stack_image};
 use std::alloc::Global;
 
 impl Machine {
     ghost use Rattle.plain_kernel.specs.Standing.{kernel_of};
 
-    /// The machine that is booted with an image: process 1 has its pages and starts at its entry.
-    pub fn boot(alloc: Global, image: &Image) -> Result<Machine, NoMemory>
-        ensures { IfOk result (λ machine. kernel_of machine [] ≡ boot_of image.now) }
+    /// The machine that is booted with an image, its arguments and its environment, with these files and this on
+    /// standard input.
+    pub fn boot(
+        alloc: Global,
+        image: &Image,
+        args: &[Bytes],
+        env: &[Bytes],
+        files: &[FileOut],
+        input: Bytes,
+    ) -> Result<Machine, NoMemory>
+        requires { is_too_big args.now env.now ≡ false }
+        ensures boots { IfOk result (λ machine. kernel_of machine nothing ≡ boot_of image.now args.now env.now files.now input) }
+        ensures files { IfOk result (λ machine. machine.files ≡ files.now) }
     {
-        let segments = image.segments();
-        let areas = image_areas(alloc, segments)?;
-        let mut memory = FlatMemory::new(alloc)?;
-        memory.create(FIRST, areas)?;
-        fill_all(&mut memory, segments)?;
+        let stack = start_stack(alloc, args, env, image.entry())?;
+        let memory = load(alloc, image, &stack)?;
+        let files = copy_files(alloc, files)?;
         Ok(Machine {
-            first: Some(Cpu {
-                pc: image.entry(),
-                x: [0; 32],
-            }),
+            first: Some(start(image.entry(), stack.sp)),
             exits: Seq::new(alloc),
             memory,
+            input: Input::new(input),
+            files: Seq::from_vec(files),
         })
     }
 }
 
-// Each page that a load meets, with the union of the permissions of the loads that meet it. At most 64 loads
-// make fewer runs than an address space can have, so `TooMany` doesn't come.
-fn image_areas(alloc: Global, segments: &[Segment]) -> Result<Areas, NoMemory>
-    requires { All IsBoundedSegment segments.now }
-    ensures { IfOk result (λ areas. areas ≡ areas_of segments.now []) }
+// The start stack. Its strings are few enough.
+fn start_stack(
+    alloc: Global,
+    args: &[Bytes],
+    env: &[Bytes],
+    entry: u64,
+) -> Result<StackImage, NoMemory>
+    requires { is_too_big args.now env.now ≡ false }
+    ensures { IfOk result (IsStack args.now env.now entry) }
 {
-    let mut areas = Areas::new(alloc)?;
-    for segment in segments {
-        map_pages(&mut areas, segment)?;
-    }
-    Ok(areas)
-}
-
-// The pages that one load meets.
-fn map_pages(areas: &mut Areas, segment: &Segment) -> Result<(), NoMemory>
-    requires { IsBoundedSegment segment.now }
-    ensures { OnOk result (areas.new ≡ areas_of (segment.now ∷ []) areas.old) }
-{
-    let first = segment.vaddr / PAGE_BYTES;
-    let count = (segment.vaddr + segment.memsz - 1) / PAGE_BYTES + 1 - first;
-    add_pages(areas, first, count, segment.perms)
-}
-
-// So many pages from a page on, with these permissions beside those that they have.
-fn add_pages(areas: &mut Areas, first: u64, count: u64, perms: Perms) -> Result<(), NoMemory>
-    requires { first + count ≤ 2 ^ 26 }
-    ensures { OnOk result (areas.new ≡ with_pages first count perms areas.old) }
-{
-    for page in 0..count {
-        let vpn = Vpn(first + page);
-        let all = with_more(areas.perms_at(vpn), perms);
-        match areas.put(vpn, 1, all) {
-            Ok(()) => {}
-            Err(_) => return Err(NoMemory),
-        }
-    }
-    Ok(())
-}
-
-// The permissions of a page together with more.
-fn with_more(perms: Option<Perms>, more: Perms) -> Perms
-    ensures { result ≡ union perms more }
-{
-    match perms {
-        Some(perms) => Flags::union(perms, more),
-        None => more,
+    match stack_image(alloc, args, env, entry) {
+        Ok(stack) => Ok(stack),
+        Err(StackFault::NoMemory) => Err(NoMemory),
+        Err(StackFault::TooBig) => unreachable!(),
     }
 }
 
-// The bytes of the loads, each at its address.
+// The memory in which process 1 has the pages and the bytes of an image, and its start stack over them.
+fn load(alloc: Global, image: &Image, stack: &StackImage) -> Result<FlatMemory, NoMemory>
+    requires { stack.now.sp + length stack.now.bytes ≤ 2 ^ 38 }
+    ensures { IfOk result (λ memory. spaces_of memory ≡ with_space (λ pid. no_space) 1 (with_bytes (record { areas = image_areas_of image.now.segments; byte = loaded image.now.segments }) stack.now.sp stack.now.bytes)) }
+{
+    let areas = image_areas(alloc, image)?;
+    let mut memory = FlatMemory::new(alloc)?;
+    memory.create(FIRST, areas)?;
+    fill_all(&mut memory, image.segments())?;
+    memory.fill(FIRST, stack.sp, stack.bytes.as_slice())?;
+    Ok(memory)
+}
+
+// The bytes of the loads, each at its address, those of the last load first.
 fn fill_all(memory: &mut FlatMemory, segments: &[Segment]) -> Result<(), NoMemory>
     requires { All IsBoundedSegment segments.now }
     ensures { OnOk result (spaces_of memory.new ≡ filled segments.now (spaces_of memory.old)) }
 {
-    for segment in segments {
+    for i in (0..segments.len()).rev() {
+        let segment = &segments[i];
         memory.fill(FIRST, segment.vaddr, segment.bytes.as_slice())?;
     }
     Ok(())
+}
+
+// The registers at the start: sp is the stack pointer, all others are 0.
+fn start(entry: u64, sp: u64) -> Cpu
+    ensures { result ≡ record { pc = entry; x = 0 ∷ 0 ∷ sp ∷ replicate 29 0 } }
+{
+    let mut x = [0; 32];
+    x[2] = sp;
+    Cpu { pc: entry, x }
 }

@@ -1,11 +1,12 @@
-ghost use Rattle.std.specs.Prelude.{◌≡◌, ℕ, ◌≤◌, [], ◌∷◌, List, Some, IsSome, IfOk, OnOk, IfErr};
+ghost use Rattle.std.specs.Prelude.{◌≡◌, ℕ, [], ◌∷◌, Some, IsSome, IfOk, OnOk, IfErr};
 ghost use Rattle.rv64_step.specs.Meaning.{with_reg, next_pc};
 
 use crate::calls::CallEnd;
+use crate::input::Input;
 use crate::instructions::run_some;
 use flat_memory::FlatMemory;
 use host_io::Sink;
-use lego_base::{CallStop, Exit, Halt, NoMemory, Pid, Seq};
+use lego_base::{CallStop, Exit, FileOut, Halt, NoMemory, Pid, Seq};
 use rv64_step::{Cpu, StepEnd};
 use std::alloc::Global;
 
@@ -18,31 +19,36 @@ pub struct Machine {
     pub first: Option<Cpu>, // process 1, while it lives
     pub exits: Seq<Exit>, // the exits so far, in order
     pub memory: FlatMemory,
+    pub input: Input,
+    pub files: Seq<FileOut>, // those that have a name
 }
 
 impl Machine {
+    ghost use Rattle.kernel_model.specs.State.{Written};
     ghost use Rattle.kernel_model.specs.Effects.{applies, Dies};
     ghost use Rattle.plain_kernel.specs.Standing.{kernel_of};
-    ghost use Rattle.plain_kernel.specs.Outcomes.{Went, Cause};
+    ghost use Rattle.plain_kernel.specs.Outcomes.{told, faults, Later, Went, Cause};
     ghost use Rattle.plain_kernel.specs.Turned.{Instructed, calls, call_is_unbuilt, turns, turn_is_unbuilt};
 
     /// A turn of process 1, which has these registers: at most `quantum` instructions, then its call or
     /// its death.
-    pub fn turn<O: Sink>(
+    pub fn turn<O: Sink, E: Sink>(
         &mut self,
         alloc: Global,
         cpu: Cpu,
         quantum: u32,
         out: &mut O,
+        err: &mut E,
     ) -> Result<(), CallStop>
         requires { self.old.first ≡ Some cpu }
-        ensures later { O.faults out.old ≤ O.faults out.new }
-        ensures cause { IfErr result (Cause (O.faults out.old) (O.faults out.new)) }
-        ensures went { Went (O.held out.old) (O.held out.new) (kernel_of self.old) (kernel_of self.new) (λ k. turns quantum cpu k) (λ k. turn_is_unbuilt quantum cpu k) result }
+        ensures later { Later (faults (O.faults out.old) (E.faults err.old)) (faults (O.faults out.new) (E.faults err.new)) }
+        ensures cause { IfErr result (Cause (faults (O.faults out.old) (E.faults err.old)) (faults (O.faults out.new) (E.faults err.new))) }
+        ensures went { Went (told (O.held out.old) (E.held err.old)) (told (O.held out.new) (E.held err.new)) (kernel_of self.old) (kernel_of self.new) (λ k. turns quantum cpu k) (λ k. turn_is_unbuilt quantum cpu k) result }
+        ensures files { self.new.files ≡ self.old.files }
     {
         match self.instructions(cpu, quantum) {
             Ok((StepEnd::Next, _)) => Ok(()),
-            Ok((StepEnd::Call, cpu)) => match self.call(alloc, cpu, out) {
+            Ok((StepEnd::Call, cpu)) => match self.call(alloc, cpu, out, err) {
                 Ok(()) => Ok(()),
                 Err(stop) => Err(stop),
             },
@@ -57,7 +63,8 @@ impl Machine {
     // The instructions of a turn.
     fn instructions(&mut self, cpu: Cpu, quantum: u32) -> Result<(StepEnd, Cpu), NoMemory>
         requires { self.old.first ≡ Some cpu }
-        ensures { IfOk result (λ end. Instructed self.old self.new cpu quantum end.0 end.1) }
+        ensures ran { IfOk result (λ end. Instructed self.old self.new cpu quantum end.0 end.1) }
+        ensures files { self.new.files ≡ self.old.files }
     {
         let mut cpu = cpu;
         match run_some(&mut cpu, FIRST, &mut self.memory, quantum) {
@@ -70,13 +77,20 @@ impl Machine {
     }
 
     // A system call of process 1, which has these registers.
-    fn call<O: Sink>(&mut self, alloc: Global, cpu: Cpu, out: &mut O) -> Result<(), CallStop>
+    fn call<O: Sink, E: Sink>(
+        &mut self,
+        alloc: Global,
+        cpu: Cpu,
+        out: &mut O,
+        err: &mut E,
+    ) -> Result<(), CallStop>
         requires { self.old.first ≡ Some cpu }
-        ensures later { O.faults out.old ≤ O.faults out.new }
-        ensures cause { IfErr result (Cause (O.faults out.old) (O.faults out.new)) }
-        ensures went { Went (O.held out.old) (O.held out.new) (kernel_of self.old) (kernel_of self.new) (λ k. calls cpu k) (λ k. call_is_unbuilt cpu k) result }
+        ensures later { Later (faults (O.faults out.old) (E.faults err.old)) (faults (O.faults out.new) (E.faults err.new)) }
+        ensures cause { IfErr result (Cause (faults (O.faults out.old) (E.faults err.old)) (faults (O.faults out.new) (E.faults err.new))) }
+        ensures went { Went (told (O.held out.old) (E.held err.old)) (told (O.held out.new) (E.held err.new)) (kernel_of self.old) (kernel_of self.new) (λ k. calls cpu k) (λ k. call_is_unbuilt cpu k) result }
+        ensures files { self.new.files ≡ self.old.files }
     {
-        match self.call_row(alloc, &cpu, out) {
+        match self.call_row(alloc, &cpu, out, err) {
             Ok(CallEnd::Value(value)) => {
                 self.first = Some(answered(cpu, value));
                 Ok(())
@@ -92,7 +106,8 @@ impl Machine {
     // The death of process 1 with a wait status.
     fn die(&mut self, status: u32) -> Result<(), NoMemory>
         requires { IsSome self.old.first }
-        ensures { OnOk result ((out : List ℕ) → applies (Dies 1 status ∷ []) (kernel_of self.old out) ≡ kernel_of self.new out) }
+        ensures dies { OnOk result ((written : Written) → applies (Dies 1 status ∷ []) (kernel_of self.old written) ≡ kernel_of self.new written) }
+        ensures files { self.new.files ≡ self.old.files }
     {
         match self.exits.push(Exit { pid: FIRST, status }) {
             Ok(()) => {
