@@ -6,7 +6,6 @@
     .globl _start
     .text
 _start:
-    la   sp, stack_top          # there is no stack until a program makes one
     li   s0, 1                  # the start at hand
     li   s1, BOUND
     li   s2, 0                  # the best start
@@ -82,7 +81,3 @@ put_number:
 line:
     .skip 64
 line_end:
-    .balign 16
-stack:
-    .skip 256
-stack_top:

@@ -1,5 +1,5 @@
-/* The system calls that there are so far, for C programs without a library. Built for the machine on which
-   the compiler runs, a program has the C library's functions of the same names. */
+/* System calls for C programs without a library. Built for the machine on which the compiler runs, a program
+   has the C library's functions of the same names. */
 #ifndef LEGO_H
 #define LEGO_H
 
@@ -16,7 +16,13 @@ static inline long system_call(long number, long first, long second, long third)
     return a0;
 }
 
-/* write(2): gives the length, or minus the number of the error. The descriptor has to be 1. */
+/* read(2): gives how many bytes it moved, 0 at the end, or minus the number of the error. */
+static inline long read(int descriptor, void *bytes, unsigned long length)
+{
+    return system_call(63, descriptor, (long)bytes, (long)length);
+}
+
+/* write(2): gives the length, or minus the number of the error. */
 static inline long write(int descriptor, const void *bytes, unsigned long length)
 {
     return system_call(64, descriptor, (long)bytes, (long)length);

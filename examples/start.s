@@ -1,12 +1,15 @@
-# The start of a C program: makes a stack, calls `main` and exits with its result. Below it are the two
-# functions that gcc calls by itself where a program sets or copies many bytes.
-
-    .equ STACK_BYTES, 16384
+# The start of a C program: calls `main` with the arguments and the environment that stand on the stack, and
+# exits with its result. Below it are the two functions that compilers call by themselves where a program
+# sets or copies many bytes.
 
     .globl _start
     .text
 _start:
-    la   sp, stack_top          # the machine starts without a stack
+    ld   a0, 0(sp)              # argc
+    addi a1, sp, 8              # argv
+    addi a2, a0, 2              # envp is behind argc, the arguments' addresses and a 0
+    slli a2, a2, 3
+    add  a2, a2, sp
     call main
     li   a7, 93                 # exit
     ecall
@@ -36,8 +39,3 @@ memcpy:
     addi t0, t0, 1
     j    1b
 2:  ret
-
-    .bss
-    .balign 16
-    .skip STACK_BYTES
-stack_top:
