@@ -1,4 +1,5 @@
-# Runs on without end: the sieve of Eratosthenes below BOUND, again and again.
+# The sieve of Eratosthenes below BOUND, again and again: the rounds of its argument, or without end where there
+# is none.
 
     .equ BOUND, 8192
 
@@ -7,6 +8,20 @@
 _start:
     la   s0, crossed            # one byte a number, 1 where it is crossed out
     li   s1, BOUND
+    li   s3, 0                  # rounds to go; 0 stands for no end
+    ld   t0, 0(sp)              # the number of arguments, its own name among them
+    li   t1, 2
+    bltu t0, t1, again
+    ld   t0, 16(sp)             # the first behind the name
+    li   t2, 10
+next_digit:
+    lbu  t1, 0(t0)
+    beqz t1, again
+    mul  s3, s3, t2
+    add  s3, s3, t1
+    addi s3, s3, -'0'
+    addi t0, t0, 1
+    j    next_digit
 again:
     mv   t1, s0
     add  t2, s0, s1
@@ -32,7 +47,11 @@ next_multiple:
 passed:
     addi t0, t0, 1
     bltu t0, s1, next_number
-    j    again
+    addi s3, s3, -1
+    bnez s3, again
+    li   a0, 0
+    li   a7, 93                 # exit
+    ecall
 
     .bss
 crossed:
