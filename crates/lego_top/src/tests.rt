@@ -438,30 +438,67 @@ fn failed_write_ends_the_run(rt: HostRuntime) -> Result<(), Fail> {
     compare(&rt, alloc, outcome, wanted)
 }
 
-// Each call of the depot in turn (the description, the program, the report, the archive), then each of the input.
-#[test]
-fn each_failure_has_its_ending(rt: HostRuntime) -> Result<(), Fail> {
-    let alloc = rt.alloc();
+// The status of a run of the program that writes twice, where these calls fail.
+fn status_where(alloc: Global, fails: Fails) -> Result<u8, Fail> {
     let program = image(alloc, 5, AB_CD.as_slice(), b"abcd".as_slice())?;
-    for call in 3u64..8 {
+    let outcome = run(alloc, PLAIN, program.as_slice(), b"x".as_slice(), fails)?;
+    Ok(outcome.status)
+}
+
+// The depot's calls: the description, the program, the report, the archive.
+#[test]
+fn each_failure_of_the_depot_has_its_ending(rt: HostRuntime) -> Result<(), Fail> {
+    let alloc = rt.alloc();
+    for (call, status) in [(3u64, 11u8), (4, 11), (5, 11), (6, 11), (7, 0)] {
         let fails = Fails {
             depot: call,
             ..NONE
         };
-        let outcome = run(alloc, PLAIN, program.as_slice(), b"".as_slice(), fails)?;
-        let status = if call < 7 { 11 } else { 0 };
-        assert_eq!(rt; outcome.status, status);
-    }
-    for call in 1u64..4 {
-        let fails = Fails {
-            input: call,
-            ..NONE
-        };
-        let outcome = run(alloc, PLAIN, program.as_slice(), b"x".as_slice(), fails)?;
-        let status = if call < 3 { 9 } else { 0 };
-        assert_eq!(rt; outcome.status, status);
+        assert_eq!(rt; status_where(alloc, fails)?, status);
     }
     Ok(())
+}
+
+#[test]
+fn each_failure_of_the_streams_has_its_ending(rt: HostRuntime) -> Result<(), Fail> {
+    let alloc = rt.alloc();
+    for (input, out, err, status) in [
+        (1u64, 0u64, 0u64, 9u8),
+        (2, 0, 0, 9),
+        (3, 0, 0, 0),
+        (0, 1, 0, 12),
+        (0, 2, 0, 12),
+        (0, 3, 0, 0),
+        (0, 1, 1, 12),
+        (0, 0, 1, 0),
+    ] {
+        let fails = Fails {
+            depot: 0,
+            input,
+            out,
+            err,
+        };
+        assert_eq!(rt; status_where(alloc, fails)?, status);
+    }
+    Ok(())
+}
+
+// A program's own write to standard error: it has no line, as there is nowhere to write it.
+#[test]
+fn failed_standard_error_ends_the_run(rt: HostRuntime) -> Result<(), Fail> {
+    let alloc = rt.alloc();
+    let program = image(alloc, 5, ARGUMENTS.as_slice(), b"".as_slice())?;
+    let desc =
+        r#"{"version":1,"init":"p.elf","args":["p","xy"],"env":["a=1"],"report":"r","archive":"a"}"#;
+    let fails = Fails { err: 1, ..NONE };
+    let outcome = run(alloc, desc, program.as_slice(), b"".as_slice(), fails)?;
+    let wanted = Wanted {
+        status: 13,
+        out: "xy",
+        err: "",
+        report: "",
+    };
+    compare(&rt, alloc, outcome, wanted)
 }
 
 // The status of a call with these words and this input.
@@ -484,12 +521,14 @@ fn status_of(alloc: Global, names: &[&str], input: &[u8]) -> Result<u8, Fail> {
 }
 
 #[test]
-fn other_words_are_usage(rt: HostRuntime) -> Result<(), Fail> {
+fn words_name_a_description(rt: HostRuntime) -> Result<(), Fail> {
     let alloc = rt.alloc();
     let none: [&str; 0] = [];
     assert_eq!(rt; status_of(alloc, none.as_slice(), b"".as_slice())?, 2);
     let run = ["run", "d.json"];
     assert_eq!(rt; status_of(alloc, run.as_slice(), b"".as_slice())?, 2);
+    let absent = ["plain", "e.json"];
+    assert_eq!(rt; status_of(alloc, absent.as_slice(), b"".as_slice())?, 3);
     Ok(())
 }
 
@@ -500,4 +539,18 @@ fn input_has_a_longest_length(rt: HostRuntime) -> Result<(), Fail> {
     let words = ["plain", "d.json"];
     assert_eq!(rt; status_of(alloc, words.as_slice(), long.as_slice())?, 10);
     Ok(())
+}
+
+#[test]
+fn file_has_a_longest_length(rt: HostRuntime) -> Result<(), Fail> {
+    let alloc = rt.alloc();
+    let long = vec![in alloc; 0u8; 16_777_217]?;
+    let outcome = run(alloc, PLAIN, long.as_slice(), b"".as_slice(), NONE)?;
+    let wanted = Wanted {
+        status: 16,
+        out: "",
+        err: "lego: file p.elf is longer than 16777216 bytes\n",
+        report: "",
+    };
+    compare(&rt, alloc, outcome, wanted)
 }
