@@ -5,6 +5,18 @@ use Rattle.lego_base.specs.declared.stops.MemStop.TheVariants.{Segv, Halt}
 use Rattle.lego_base.specs.declared.stops.Halt.TheVariants.{NoMemory}
 use Rattle.lego_base.specs.Space.{Space, permits, bytes_at, number_of, bytes_of, with_bytes, with_space}
 
+-- an access that takes no memory of the host doesn't halt
+abbrev pub NoHalt : {A : Type 0} → Result A MemStop → Type 0
+NoHalt (Ok value) = Unit {0}
+NoHalt (Err Segv) = Unit {0}
+NoHalt (Err (Halt halt)) = ⊥
+
+-- a halt is for want of memory
+abbrev pub OutOfMemory : {A : Type 0} → Result A MemStop → Type 0
+OutOfMemory (Ok value) = Unit {0}
+OutOfMemory (Err Segv) = Unit {0}
+OutOfMemory (Err (Halt halt)) = halt ≡ NoMemory
+
 -- a copy of n bytes: they are there where each may be read, and Segv comes exactly where one may not
 abbrev pub Copied : Space → ℕ → ℕ → Result (List ℕ) MemStop → Type 0
 Copied space address n (Ok bytes) = (permits space 1 address n ≡ true) × (bytes ≡ bytes_at space address n)

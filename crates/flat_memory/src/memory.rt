@@ -117,17 +117,18 @@ fn no_bytes(alloc: Global, len: u64) -> Result<Bytes, MemStop>
 }
 
 impl GuestMem for FlatMemory {
+    ghost use Rattle.flat_memory.specs.Access.{NoHalt, OutOfMemory};
     ghost use Rattle.flat_memory.specs.Spaces.{spaces_of};
 
     ghost serves = { λ m q. true };
 
     ghost space = { λ m q. spaces_of m q };
 
-    ghost fetches = { λ m q a answer n. n ≡ m };
+    ghost fetches = { λ m q a answer n. (n ≡ m) × NoHalt answer };
 
-    ghost loads = { λ m q a len answer n. n ≡ m };
+    ghost loads = { λ m q a len answer n. (n ≡ m) × NoHalt answer };
 
-    ghost stores = { λ m q a len value answer n. (r : _) → (r ≡ q → ⊥) → spaces_of n r ≡ spaces_of m r };
+    ghost stores = { λ m q a len value answer n. ((r : _) → (r ≡ q → ⊥) → spaces_of n r ≡ spaces_of m r) × OutOfMemory answer };
 
     #[inline(always)]
     fn load(&mut self, pid: Pid, addr: u64, len: u8) -> Result<u64, MemStop> {

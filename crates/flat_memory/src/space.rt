@@ -26,7 +26,7 @@ pub struct FlatSpace {
 impl FlatSpace {
     ghost use Rattle.lego_base.specs.Space.{permits, bytes_at, with_bytes};
     ghost use Rattle.rv64_step.specs.Access.{is_width, Reads, Writes, Changes};
-    ghost use Rattle.flat_memory.specs.Access.{Copied, CopiedOut, IsRead, IsWrite};
+    ghost use Rattle.flat_memory.specs.Access.{Copied, CopiedOut, IsRead, IsWrite, NoHalt, OutOfMemory};
     ghost use Rattle.flat_memory.specs.Quick.{is_need};
     ghost use Rattle.flat_memory.specs.Spaces.{space_of};
 
@@ -47,7 +47,8 @@ impl FlatSpace {
     /// The 32 bits at an address, where each of the four bytes may be fetched.
     #[inline(always)]
     pub fn fetch(&self, addr: u64) -> Result<u32, MemStop>
-        ensures { Reads (space_of self.now) 4 addr 4 result }
+        ensures reads { Reads (space_of self.now) 4 addr 4 result }
+        ensures halts { NoHalt result }
     {
         let word = match self.table.place(4, addr, 4) {
             Some(at) => word::word(&self.bytes, at),
@@ -63,7 +64,8 @@ impl FlatSpace {
     #[inline(always)]
     pub fn load(&self, addr: u64, len: u8) -> Result<u64, MemStop>
         requires { IsTrue (is_width len) }
-        ensures { Reads (space_of self.now) 1 addr len result }
+        ensures reads { Reads (space_of self.now) 1 addr len result }
+        ensures halts { NoHalt result }
     {
         match self.table.place(1, addr, len) {
             Some(at) => Ok(word::number(&self.bytes, at, len)),
@@ -145,6 +147,7 @@ impl FlatSpace {
         requires width { IsTrue (is_width len) }
         ensures writes { Writes (space_of self.old) addr len result }
         ensures changes { Changes result addr len value (space_of self.old) (space_of self.new) }
+        ensures halts { OutOfMemory result }
     {
         if let Some(at) = self.table.place(2, addr, len) {
             word::put(&mut self.bytes, at, len, value);

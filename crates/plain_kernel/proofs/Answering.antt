@@ -1,5 +1,5 @@
 -- What the code of a call did, by the row that applies.
-use Rattle.std.proofs.Common.{◌≡◌, ℕ, ◌≤◌, Bool, true, false, cond, eqb, refl, sym, ◌∙◌, ap, subst, min, not, List, [], ◌∷◌, length, take, drop, Option, Some, None, arith}
+use Rattle.std.proofs.Common.{◌≡◌, ℕ, Bool, true, false, cond, eqb, refl, sym, ◌∙◌, ap, subst, min, not, List, [], ◌∷◌, length, take, drop, Option, Some, None, arith}
 use Rattle.std.proofs.lemmas.Bool.{eq-eqb, ne_eqb}
 use Rattle.std.proofs.lemmas.List.{length-take-le}
 use Rattle.lego_base.specs.Space.{permits, bytes_at, with_bytes, with_space}
@@ -9,7 +9,7 @@ use Rattle.rv64_step.specs.Meaning.{reg}
 use Rattle.kernel_model.specs.State as streams
 use Rattle.kernel_model.specs.State.{Kernel, Stream, Written, nothing, process}
 use Rattle.kernel_model.specs.Effects.{applies, Reads, Takes, Puts, Writes, CopyIn, CopyOut}
-use Rattle.kernel_model.specs.Calls.{Called, Gives, Death, Object, Input, Output, EBADF, EFAULT, first, exit_row, opened, counted, moved, read_from, write_to, call_of, row, the_row, parent_of}
+use Rattle.kernel_model.specs.Calls.{Called, Gives, Object, Input, Output, EBADF, EFAULT, first, exit_row, opened, counted, moved, read_from, write_to, call_of, row, the_row, parent_of}
 use Rattle.plain_kernel.specs.declared.machine.Machine.{Machine}
 use Rattle.plain_kernel.specs.declared.calls.CallEnd.{CallEnd}
 use Rattle.plain_kernel.specs.declared.calls.CallEnd.TheVariants.{Value}

@@ -1,5 +1,5 @@
 -- From a row of the table of calls to what a call does.
-use Rattle.std.proofs.Common.{◌≡◌, ℕ, ◌<◌, false, refl, sym, ◌∙◌, ap, subst, List, [], ◌∷◌, ◌++◌, length, Option, Some}
+use Rattle.std.proofs.Common.{◌≡◌, ℕ, false, refl, sym, ◌∙◌, ap, subst, [], ◌∷◌, Some}
 use Rattle.lego_base.specs.declared.stops.CallStop.{CallStop}
 use Rattle.lego_base.specs.declared.stops.CallStop.TheVariants.{Halt, OutFault, ErrFault, Unbuilt}
 use Rattle.rv64_step.specs.declared.cpu.Cpu.{Cpu}

@@ -1,5 +1,5 @@
 -- What loading leaves.
-use Rattle.std.proofs.Common.{◌≡◌, ℕ, suc, ◌+◌, ◌<◌, refl, sym, ◌∙◌, ap, subst, List, [], ◌∷◌, length, drop, get_or, Some}
+use Rattle.std.proofs.Common.{◌≡◌, ℕ, ◌+◌, ◌<◌, refl, sym, ◌∙◌, ap, List, [], ◌∷◌, length, drop, get_or, Some}
 use Rattle.std.proofs.lemmas.List.{drop_more}
 use Rattle.lego_base.specs.declared.records.Area.{Area}
 use Rattle.lego_base.specs.declared.report.FileOut.{FileOut}
@@ -8,8 +8,6 @@ use Rattle.elf_image.specs.declared.image.Segment.{Segment}
 use Rattle.elf_image.specs.Image.{Program}
 use Rattle.flat_memory.specs.Spaces.{spaces_of}
 use Rattle.space_rules.specs.Mapped.{image_areas_of}
-use Rattle.space_rules.specs.Start.{sp_of, stack_bytes}
-use Rattle.rv64_step.specs.declared.cpu.Cpu.{Cpu}
 use Rattle.kernel_model.specs.State.{nothing}
 use Rattle.kernel_model.specs.Boot.{loaded, start_of, boot_of}
 use Rattle.kernel_model.specs.Laws.{start_space}

@@ -1,6 +1,5 @@
 -- The machine's run is the flat run on the kernel that was booted.
-use Rattle.std.proofs.Common.{◌≡◌, ℕ, suc, ◌<◌, ◌≤◌, ◌++◌, List, Some, None, Err, refl, sym, ◌∙◌, ap, subst, arith}
-use Rattle.lego_base.specs.declared.report.Ended.{Ended}
+use Rattle.std.proofs.Common.{◌≡◌, ℕ, suc, ◌<◌, ◌++◌, List, Some, None, Err, refl, sym, ◌∙◌, ap, subst, arith}
 use Rattle.lego_base.specs.declared.report.FileOut.{FileOut}
 use Rattle.lego_base.specs.declared.stops.CallStop.{CallStop}
 use Rattle.lego_base.specs.declared.stops.CallStop.TheVariants.{Halt, OutFault, ErrFault, Unbuilt}
@@ -15,7 +14,7 @@ use Rattle.plain_kernel.specs.declared.machine.Machine.{Machine}
 use Rattle.plain_kernel.specs.declared.run.PlainEnd.{PlainEnd}
 use Rattle.plain_kernel.specs.Standing.{kernel_of}
 use Rattle.plain_kernel.specs.Outcomes.{Told, Took, CutShort}
-use Rattle.plain_kernel.specs.Runs.{GoesOn, Through, EndsAfter, GoesInto, Ends, Stops, StopsAtCall, Cuts, PlainRan}
+use Rattle.plain_kernel.specs.Runs.{GoesOn, Through, GoesInto, Ends, Stops, Cuts, PlainRan}
 use Rattle.plain_kernel.specs.Going.{Finished, Broken}
 use Rattle.plain_kernel.proofs.Piecewise.{took-nothing, took-more}
 

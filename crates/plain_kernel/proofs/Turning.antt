@@ -1,5 +1,5 @@
 -- A turn: its instructions, then its end.
-use Rattle.std.proofs.Common.{◌≡◌, ℕ, false, refl, sym, ◌∙◌, ap, [], ◌∷◌}
+use Rattle.std.proofs.Common.{◌≡◌, ℕ, false, sym, ◌∙◌, ap, [], ◌∷◌}
 use Rattle.lego_base.specs.declared.stops.CallStop.{CallStop}
 use Rattle.lego_base.specs.declared.stops.CallStop.TheVariants.{Halt, OutFault, ErrFault, Unbuilt}
 use Rattle.rv64_step.specs.declared.cpu.Cpu.{Cpu}

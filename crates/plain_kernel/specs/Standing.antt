@@ -1,5 +1,5 @@
 -- Which kernel of the definitions a machine stands for.
-use Rattle.std.specs.Prelude.{ℕ, List, [], ◌∷◌, Option, Some, None}
+use Rattle.std.specs.Prelude.{List, [], ◌∷◌, Option, Some, None}
 use Rattle.rv64_step.specs.declared.cpu.Cpu.{Cpu}
 use Rattle.flat_memory.specs.Spaces.{spaces_of}
 use Rattle.kernel_model.specs.State.{Kernel, Process, Live, Written}

@@ -2,7 +2,7 @@ use Rattle.std.proofs.Common.{◌∙◌}
 use Rattle.kernel_model.specs.Boot.{boot_of}
 use Rattle.plain_kernel.specs.Outcomes.{told}
 use Rattle.plain_kernel.specs.Runs.{schedule_of}
-use Rattle.plain_kernel.proofs.Ran.{not_begun, ran_to_stop, ran_to_end}
+use Rattle.plain_kernel.proofs.Ran.{not_begun, ran_to_stop}
 use Rattle.plain_kernel.proofs.run.plain_run.Goals as goal
 
 pub returns-in-Err-clause-run : goal.returns-in-Err-clause-run

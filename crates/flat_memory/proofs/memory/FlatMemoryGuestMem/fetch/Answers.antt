@@ -6,7 +6,7 @@ use Rattle.flat_memory.proofs.memory.FlatMemoryGuestMem.fetch.Goals as goal
 
 pub returns-in_default : goal.returns-in_default
 returns-in_default c = record {
-  joined = refl;
+  joined = (refl, tt);
   served = λ q. refl;
   reads = ap (λ space. permits space 4 c.args.addr 4) c.in_default.ensures ∙ none-permitted 4 c.args.addr 4 (lit< tt);
   keeps = λ q h. refl;
@@ -14,8 +14,8 @@ returns-in_default c = record {
 
 pub returns : goal.returns
 returns c = record {
-  joined = refl;
+  joined = (refl, c.fetch.ensures.halts);
   served = λ q. refl;
-  reads = subst (λ space. Reads space 4 c.args.addr 4 c.fetch.result) (sym c.in-Some.ensures) c.fetch.ensures;
+  reads = subst (λ space. Reads space 4 c.args.addr 4 c.fetch.result) (sym c.in-Some.ensures) c.fetch.ensures.reads;
   keeps = λ q h. keeps c.fetch.result _ _ refl;
 }

@@ -7,7 +7,7 @@ use Rattle.flat_memory.proofs.memory.FlatMemoryGuestMem.load.Goals as goal
 
 pub returns-in_default : goal.returns-in_default
 returns-in_default c = record {
-  joined = refl;
+  joined = (refl, tt);
   served = λ q. refl;
   reads = ap (λ space. permits space 1 c.args.addr c.args.len) c.in_default.ensures ∙ none-permitted 1 c.args.addr c.args.len (width-some c.args.len c.requires.width).0;
   keeps = λ q h. refl;
@@ -15,8 +15,8 @@ returns-in_default c = record {
 
 pub returns : goal.returns
 returns c = record {
-  joined = refl;
+  joined = (refl, c.load.ensures.halts);
   served = λ q. refl;
-  reads = subst (λ space. Reads space 1 c.args.addr c.args.len c.load.result) (sym c.in-Some.ensures) c.load.ensures;
+  reads = subst (λ space. Reads space 1 c.args.addr c.args.len c.load.result) (sym c.in-Some.ensures) c.load.ensures.reads;
   keeps = λ q h. keeps c.load.result _ _ refl;
 }

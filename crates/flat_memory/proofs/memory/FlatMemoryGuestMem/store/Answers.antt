@@ -9,7 +9,7 @@ use Rattle.flat_memory.proofs.memory.FlatMemoryGuestMem.store.Goals as goal
 pub returns-then-index-len : goal.returns-then-index-len
 returns-then-index-len c =
     record {
-      joined = λ r ne. refl;
+      joined = (λ r ne. refl, tt);
       served = λ q. refl;
       writes = ap (λ space. permits space 2 c.args.addr c.args.len) (at-past c.args.self.now.spaces.items c.args.pid.0 (omega (arith, c.args.self.now.spaces.ok.0))) ∙ none-permitted 2 c.args.addr c.args.len (width-some c.args.len c.requires.width).0;
       changes = refl;
@@ -26,7 +26,7 @@ returns c =
     let before : space_at spaces pid ≡ space_of old = at-within spaces pid old within ∙ ap space_of (sym c.index_mut-space.ensures.value) in
     let after : space_at (set spaces pid new) pid ≡ space_of new = set-here spaces pid new within in
     record {
-      joined = λ r ne. set-there spaces pid new r ne;
+      joined = (λ r ne. set-there spaces pid new r ne, c.store.ensures.halts);
       served = λ q. refl;
       writes = subst (λ space. Writes space c.args.addr c.args.len c.store.result) (sym before) c.store.ensures.writes;
       changes = subst (λ space. Changes c.store.result c.args.addr c.args.len c.args.value space (space_at (set spaces pid new) pid)) (sym before)

@@ -13,9 +13,12 @@ returns-in-Some c =
     let addr = c.args.addr in
     let place : IsPlace (entry_of s.table) 4 addr 4 c.in-Some.at = c.in-Some.ensures in
     let ok : allows (perms_of s.areas (addr / 4096)) 4 ≡ true = allows-entry (entry_of s.table) s.areas s.bytes.items s.ok (addr / 4096) 4 (lit< tt) ∙ place.permits in
-    let number : c.word-word.result ≡ number_of (window s.bytes.items c.in-Some.at 4) = search rules in (
-      permits-within (space_of s) 4 addr 4 (lit< tt) place.within ∙ ok,
-      number
-          ∙ ap (λ n. number_of (window s.bytes.items n 4)) place.place
-          ∙ ap number_of (sym (bytes-within (entry_of s.table) s.areas s.bytes.items addr 4 place.within)),
-    )
+    let number : c.word-word.result ≡ number_of (window s.bytes.items c.in-Some.at 4) = search rules in record {
+      reads = (
+        permits-within (space_of s) 4 addr 4 (lit< tt) place.within ∙ ok,
+        number
+            ∙ ap (λ n. number_of (window s.bytes.items n 4)) place.place
+            ∙ ap number_of (sym (bytes-within (entry_of s.table) s.areas s.bytes.items addr 4 place.within)),
+      );
+      halts = tt;
+    }

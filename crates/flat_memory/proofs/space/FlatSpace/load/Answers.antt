@@ -13,9 +13,12 @@ returns-in-Some c =
     let addr = c.args.addr in
     let place : IsPlace (entry_of s.table) 1 addr c.args.len c.in-Some.at = c.in-Some.ensures in
     let ok : allows (perms_of s.areas (addr / 4096)) 1 ≡ true = allows-entry (entry_of s.table) s.areas s.bytes.items s.ok (addr / 4096) 1 (lit< tt) ∙ place.permits in
-    let number : c.number.result ≡ number_of (window s.bytes.items c.in-Some.at c.args.len) = search rules in (
-      permits-within (space_of s) 1 addr c.args.len (width-some c.args.len c.requires).0 place.within ∙ ok,
-      number
-          ∙ ap (λ n. number_of (window s.bytes.items n c.args.len)) place.place
-          ∙ ap number_of (sym (bytes-within (entry_of s.table) s.areas s.bytes.items addr c.args.len place.within)),
-    )
+    let number : c.number.result ≡ number_of (window s.bytes.items c.in-Some.at c.args.len) = search rules in record {
+      reads = (
+        permits-within (space_of s) 1 addr c.args.len (width-some c.args.len c.requires).0 place.within ∙ ok,
+        number
+            ∙ ap (λ n. number_of (window s.bytes.items n c.args.len)) place.place
+            ∙ ap number_of (sym (bytes-within (entry_of s.table) s.areas s.bytes.items addr c.args.len place.within)),
+      );
+      halts = tt;
+    }

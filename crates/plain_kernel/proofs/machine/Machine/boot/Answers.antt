@@ -1,4 +1,4 @@
-use Rattle.std.proofs.Common.{Some, [], ◌∷◌, replicate, ap, ◌∙◌}
+use Rattle.std.proofs.Common.{Some, ◌∷◌, replicate, ap, ◌∙◌}
 use Rattle.lego_base.specs.Space.{no_space, with_space, with_bytes}
 use Rattle.rv64_step.specs.declared.cpu.Cpu.{Cpu}
 use Rattle.space_rules.specs.Mapped.{image_areas_of}

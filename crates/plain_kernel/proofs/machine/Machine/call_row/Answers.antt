@@ -2,8 +2,8 @@
 use Rattle.std.proofs.Common.{ap, sym, ◌∙◌}
 use Rattle.plain_kernel.specs.Standing.{kernel_of}
 use Rattle.plain_kernel.specs.Outcomes.{told, faults}
-use Rattle.kernel_model.specs.Calls.{opened, the_row, read_from, write_to, exit_row, says}
-use Rattle.plain_kernel.proofs.Calling.{did_as, stopped_as, read_is, write_is}
+use Rattle.kernel_model.specs.Calls.{opened, the_row, read_from, exit_row, says}
+use Rattle.plain_kernel.proofs.Calling.{did_as, stopped_as, read_is}
 use Rattle.plain_kernel.proofs.Answering.{did_answer, did_exit, number_is, no_parent}
 use Rattle.plain_kernel.proofs.machine.Machine.call_row.Goals as goal
 

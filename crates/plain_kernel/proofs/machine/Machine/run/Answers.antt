@@ -1,4 +1,4 @@
-use Rattle.std.proofs.Common.{◌+◌, ◌≤◌, refl, ◌∙◌, arith}
+use Rattle.std.proofs.Common.{◌+◌, refl, ◌∙◌, arith}
 use Rattle.plain_kernel.specs.Standing.{kernel_of}
 use Rattle.plain_kernel.specs.Outcomes.{told}
 use Rattle.plain_kernel.specs.Runs.{schedule_of}
