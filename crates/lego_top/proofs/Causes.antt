@@ -1,18 +1,15 @@
 -- The cause of each ending, from what the steps say.
-use Rattle.std.proofs.Common.{◌≡◌, ℕ, ◌<◌, ◌≤◌, ◌⊎◌, inl, inr, min, List, [], ◌∷◌, length, Option, Some, None, Ok, Err, Result, refl, sym, ◌∙◌, ap, subst, arith}
+use Rattle.std.proofs.Common.{◌≡◌, ℕ, ◌≤◌, inl, inr, List, [], ◌∷◌, length, Option, Some, None, refl, sym, ◌∙◌, ap, subst, arith}
 use Rattle.host_io.specs.Counts.{Rose}
 use Rattle.host_io.specs.Depots.{Files, Has}
-use Rattle.host_io.specs.Sources.{ReadWhole}
-use Rattle.desc_read.specs.declared.plan.Plan.{Plan}
-use Rattle.desc_read.specs.Plans.{described}
 use Rattle.lego_top.specs.declared.ending.Ending.{Ending}
 use Rattle.lego_top.specs.declared.ending.Ending.TheVariants.{Done, Spent, Stuck, Usage, Missing, FileLong, BadDesc, BadImage, InputFault, InputLong, DepotFault, Unbuilt, OutFault, ErrFault, NoMemory}
 use Rattle.lego_top.specs.declared.ending.Part.TheVariants as parts
-use Rattle.lego_top.specs.Outside.{Outlets, Outside, Quiet, longest}
-use Rattle.lego_top.specs.Accepted.{Found, Planned, Names, Loaded, Fed, booted}
+use Rattle.lego_top.specs.Outside.{Outside, Quiet}
+use Rattle.lego_top.specs.Accepted.{Planned, Fed}
 use Rattle.lego_top.specs.Caused.{Caused}
 use Rattle.lego_top.specs.Looked.{Unfetched}
-use Rattle.lego_top.specs.Left.{Counts, counts, RanProgram}
+use Rattle.lego_top.specs.Left.{counts, RanProgram}
 
 -- a rise after no fall
 pub Rose-later : (before mid now : ℕ) → before ≤ mid → Rose mid now → Rose before now

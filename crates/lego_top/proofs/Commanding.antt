@@ -1,15 +1,15 @@
 -- The steps of a command, one after the other.
-use Rattle.std.proofs.Common.{◌≡◌, ℕ, ◌≤◌, List, Option, Some, Ok, Err, false, refl, sym, ◌∙◌, ap, subst}
+use Rattle.std.proofs.Common.{◌≡◌, ℕ, ◌≤◌, List, Option, Some, Ok, Err, false, sym, ◌∙◌, ap, subst}
 use Rattle.host_io.specs.Depots.{Files, Has}
 use Rattle.host_io.specs.Sources.{ReadWhole}
 use Rattle.desc_read.specs.declared.plan.Plan.{Plan}
 use Rattle.space_rules.specs.Start.{is_too_big}
 use Rattle.lego_top.specs.declared.ending.Ending.{Ending}
-use Rattle.lego_top.specs.Outside.{Outlets, Outside, Quiet, longest}
-use Rattle.lego_top.specs.Accepted.{Planned, Loaded, Fed}
+use Rattle.lego_top.specs.Outside.{Outside, Quiet, longest}
+use Rattle.lego_top.specs.Accepted.{Planned, Loaded}
 use Rattle.lego_top.specs.Caused.{Caused}
 use Rattle.lego_top.specs.Looked.{Unfetched, Fetched, Described}
-use Rattle.lego_top.specs.Left.{Counts, counts, RanProgram}
+use Rattle.lego_top.specs.Left.{counts, RanProgram}
 use Rattle.lego_top.proofs.Causes.{unfetched_init, fetched_as, caused_by_run}
 use Rattle.lego_top.proofs.Limits.{stack_fits}
 

@@ -6,15 +6,13 @@ use Rattle.lego_base.specs.declared.report.EndWord.{EndWord}
 use Rattle.lego_base.specs.declared.report.EndWord.TheVariants as words
 use Rattle.host_io.specs.Counts.{Rose, Calm}
 use Rattle.host_io.specs.Depots.{Files, Has}
-use Rattle.host_io.specs.Sources.{ReadWhole, Gave, IsDry, IsLonger}
+use Rattle.host_io.specs.Sources.{Gave, IsDry, IsLonger}
 use Rattle.host_io.proofs.CountLaws.{Calm-not_rose}
 use Rattle.desc_read.specs.declared.plan.Plan.{Plan}
 use Rattle.desc_read.specs.declared.plan.FileFrom.{FileFrom}
-use Rattle.desc_read.specs.Faults.{Refusal, refused as refused_desc}
 use Rattle.desc_read.specs.Plans.{described}
 use Rattle.elf_image.specs.declared.fault.ImageFault.{ImageFault}
 use Rattle.elf_image.specs.Image.{first_fault}
-use Rattle.kernel_model.specs.State as streams
 use Rattle.kernel_model.specs.State.{Kernel}
 use Rattle.kernel_model.specs.Turns.{Schedule, flat, ended, is_unbuilt_turn}
 use Rattle.plain_kernel.specs.Runs.{schedule_of, EndsAfter, StopsAtCall}
@@ -22,8 +20,8 @@ use Rattle.lego_top.specs.declared.ending.Ending.{Ending}
 use Rattle.lego_top.specs.declared.ending.Ending.TheVariants.{Done, Spent, Stuck, Usage, Missing, FileLong, BadDesc, BadImage, InputFault, InputLong, DepotFault, Unbuilt, OutFault, ErrFault, NoMemory}
 use Rattle.lego_top.specs.declared.ending.Part.TheVariants as parts
 use Rattle.lego_top.specs.Outside.{Outside, longest}
-use Rattle.lego_top.specs.Accepted.{Found, Planned, Names, Loaded, Fed, Ran, plan_in, booted}
-use Rattle.lego_top.specs.Caused.{Ended, EndedUnput, Caused}
+use Rattle.lego_top.specs.Accepted.{Found, Planned, Names, Loaded, Fed, Ran, booted}
+use Rattle.lego_top.specs.Caused.{Ended, Caused}
 use Rattle.lego_top.specs.Decided.{image_refusal, init_refusal, plan_refusal, read_refusal, desc_refusal, refusal, Refused, IsFine, ComesToCall, ending_of, Complete}
 
 -- ---- two words for one thing

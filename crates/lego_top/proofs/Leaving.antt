@@ -1,9 +1,7 @@
 -- What is left after a run that came to its end.
-use Rattle.std.proofs.Common.{◌≡◌, ℕ, List, [], Option, Some, None, refl, sym, ◌∙◌, ap, subst, inl, inr}
-use Rattle.lego_base.specs.declared.report.Ended.{Ended}
+use Rattle.std.proofs.Common.{◌≡◌, ℕ, List, [], Option, Some, None, refl, sym, ◌∙◌, ap, subst, inr}
 use Rattle.lego_base.specs.declared.report.EndWord.{EndWord}
 use Rattle.lego_base.specs.declared.report.EndWord.TheVariants as words
-use Rattle.lego_base.specs.declared.report.Exit.{Exit}
 use Rattle.host_io.specs.Depots.{Files}
 use Rattle.desc_read.specs.declared.plan.Plan.{Plan}
 use Rattle.elf_image.specs.Image.{first_fault}
@@ -21,7 +19,7 @@ use Rattle.lego_top.specs.Accepted.{booted}
 use Rattle.lego_top.specs.Put.{report_in, archive_in, PutBoth, PutPart}
 use Rattle.lego_top.specs.Decided.{ending_of}
 use Rattle.lego_top.specs.Caused.{Ended as EndedSo, EndedUnput}
-use Rattle.lego_top.specs.Left.{Left, Counts, counts, report_from, archive_from, RanProgram}
+use Rattle.lego_top.specs.Left.{Left, counts, report_from, archive_from, RanProgram}
 
 -- both were put
 pub left_of : (plan : Plan) (end : PlainEnd) (before after : Option Files) (count count' : ℕ) (word : EndWord) (ending : Ending) → end.ended.word ≡ word → ending ≡ ending_of word → PutBoth plan (report_from end) (archive_from end) before after → Left plan end before after count count' ending

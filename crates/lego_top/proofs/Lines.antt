@@ -1,5 +1,5 @@
 -- A line written in five parts.
-use Rattle.std.proofs.Common.{◌≡◌, ℕ, ◌++◌, List, Option, Result, Ok, Err, OnOk, OnErr, inl, inr, sym, ◌∙◌, ap, subst, append_assoc}
+use Rattle.std.proofs.Common.{◌≡◌, ℕ, ◌++◌, List, Option, Result, Ok, Err, OnOk, OnErr, inl, inr, ◌∙◌, subst, append_assoc}
 use Rattle.host_io.specs.Counts.{HasCause}
 use Rattle.lego_top.specs.Said.{Said}
 use Rattle.host_io.specs.Sinks.{TookAll, TookFront}

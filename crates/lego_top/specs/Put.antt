@@ -1,5 +1,5 @@
 -- The two files that a run leaves in the depot: the report, then the archive.
-use Rattle.std.specs.Prelude.{◌≡◌, ℕ, ◌⊎◌, List, [], Option}
+use Rattle.std.specs.Prelude.{ℕ, ◌⊎◌, List, [], Option}
 use Rattle.lego_base.specs.declared.report.EndWord.{EndWord}
 use Rattle.host_io.specs.Depots.{Files, Set, OthersStay}
 use Rattle.desc_read.specs.declared.plan.Plan.{Plan}

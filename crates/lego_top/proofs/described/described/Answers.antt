@@ -1,4 +1,4 @@
-use Rattle.std.proofs.Common.{◌≡◌, ℕ, ◌<◌, List, [], Some, Ok, length, refl, sym, ◌∙◌, ap, rules}
+use Rattle.std.proofs.Common.{◌≡◌, ◌<◌, length, refl, sym, ◌∙◌, ap, rules}
 use Rattle.desc_read.specs.Plans as plans
 use Rattle.lego_top.specs.Outside.{outlets}
 use Rattle.lego_top.proofs.Causes.{none_left}

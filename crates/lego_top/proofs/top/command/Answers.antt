@@ -1,5 +1,5 @@
 -- The cause of each ending.
-use Rattle.std.proofs.Common.{◌≡◌, ℕ, ◌≤◌, List, refl, ◌∙◌, subst, arith}
+use Rattle.std.proofs.Common.{ℕ, List, refl, ◌∙◌, subst, arith}
 use Rattle.std.specs.Prelude.{map, string_bytes}
 use Rattle.plain_kernel.specs.Outcomes.{told, faults}
 use Rattle.lego_top.specs.Left.{counts, RanProgram}
