@@ -1,0 +1,12 @@
+pub mod Places
+pub mod Maps
+pub mod Files
+pub mod State
+pub mod Table
+pub mod Operations
+pub mod Healing
+pub mod Marks
+pub mod Track
+pub mod Run
+pub mod Legal
+pub mod CacheRule

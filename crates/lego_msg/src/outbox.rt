@@ -1,0 +1,5 @@
+use crate::message::Message;
+use lego_base::Seq;
+
+/// What a component sends, in order.
+pub type Outbox = Seq<Message>;
