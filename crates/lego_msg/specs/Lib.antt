@@ -10,3 +10,4 @@ pub mod Track
 pub mod Run
 pub mod Legal
 pub mod CacheRule
+pub mod Rest
