@@ -11,3 +11,6 @@ pub mod Run
 pub mod Legal
 pub mod CacheRule
 pub mod Rest
+pub mod Watching
+pub mod ListWatched
+pub mod Kinds

@@ -1,28 +1,54 @@
+ghost use Rattle.std.specs.Prelude.{◌≡◌, IfOk};
+
 use crate::message::Message;
-use lego_base::{Bytes, CpuId, LineNo, MemId, OpNo, Pid};
+use lego_base::{Bytes, CpuId, LineNo, MemId, NoMemory, OpNo, Pid};
+use std::alloc::Global;
 
 /// Something that happened in a run, as a watch sees it.
 #[derive(Debug, Drop)]
 pub enum Event {
     /// A turn begins. Turn 0 is booting and has pid 0.
-    Turn { number: u64, pid: Pid },
+    Turn {
+        number: u64,
+        pid: Pid,
+    },
     /// A processor accessed bytes of one line. A probe and an access that isn't permitted have kind `Probe`
     /// and no bytes.
-    Access { cpu: CpuId, pid: Pid, address: u64, kind: Kind, bytes: Bytes },
+    Access {
+        cpu: CpuId,
+        pid: Pid,
+        address: u64,
+        kind: Kind,
+        bytes: Bytes,
+    },
     /// The loader wrote bytes of one page.
-    Fill { pid: Pid, address: u64, bytes: Bytes },
+    Fill {
+        pid: Pid,
+        address: u64,
+        bytes: Bytes,
+    },
     /// A processor's cache let go of a line.
-    Drop { cpu: CpuId, pid: Pid, line: LineNo },
+    Drop {
+        cpu: CpuId,
+        pid: Pid,
+        line: LineNo,
+    },
     /// A message was sent.
     Send(Message),
     /// A pending message was delivered.
     Deliver(Message),
     /// A memory lost all that it held; its incarnation is now this.
-    Crash { memory: MemId, inc: u32 },
+    Crash {
+        memory: MemId,
+        inc: u32,
+    },
     /// An operation is complete.
     Complete(OpNo),
     /// Bytes went to standard output (1) or standard error (2).
-    Out { stream: u8, bytes: Bytes },
+    Out {
+        stream: u8,
+        bytes: Bytes,
+    },
 }
 
 /// For what an access was made.
@@ -36,4 +62,56 @@ pub enum Kind {
     /// A system call's copy to the space.
     CopyOut,
     Probe,
+}
+
+impl Event {
+    /// A copy of the event.
+    pub fn copy(&self, alloc: Global) -> Result<Event, NoMemory>
+        ensures { IfOk result (λ event. event ≡ self.now) }
+    {
+        match self {
+            Event::Turn { number, pid } => Ok(Event::Turn {
+                number: *number,
+                pid: *pid,
+            }),
+            Event::Access {
+                cpu,
+                pid,
+                address,
+                kind,
+                bytes,
+            } => Ok(Event::Access {
+                cpu: *cpu,
+                pid: *pid,
+                address: *address,
+                kind: *kind,
+                bytes: bytes.copy(alloc)?,
+            }),
+            Event::Fill {
+                pid,
+                address,
+                bytes,
+            } => Ok(Event::Fill {
+                pid: *pid,
+                address: *address,
+                bytes: bytes.copy(alloc)?,
+            }),
+            Event::Drop { cpu, pid, line } => Ok(Event::Drop {
+                cpu: *cpu,
+                pid: *pid,
+                line: *line,
+            }),
+            Event::Send(message) => Ok(Event::Send(message.copy(alloc)?)),
+            Event::Deliver(message) => Ok(Event::Deliver(message.copy(alloc)?)),
+            Event::Crash { memory, inc } => Ok(Event::Crash {
+                memory: *memory,
+                inc: *inc,
+            }),
+            Event::Complete(op) => Ok(Event::Complete(*op)),
+            Event::Out { stream, bytes } => Ok(Event::Out {
+                stream: *stream,
+                bytes: bytes.copy(alloc)?,
+            }),
+        }
+    }
 }

@@ -2,13 +2,22 @@
 #![tactic(auto)]
 
 mod body; // what messages say
+mod body_copy; // copies of it
+mod body_kind; // names of its kinds
+mod copies; // copies of lists
+mod count_watch; // a watch that tells nothing
 mod event; // what happened
+mod list_watch; // a watch in memory
 mod message; // from, to, operation, body
 mod outbox; // what a component sends
 mod place; // components
+mod watch; // who sees events
 
 pub use body::Body;
+pub use count_watch::CountWatch;
 pub use event::{Event, Kind};
+pub use list_watch::ListWatch;
 pub use message::Message;
 pub use outbox::Outbox;
 pub use place::{Place, Role, Why};
+pub use watch::Watch;

@@ -1,0 +1,86 @@
+-- Laws of what was shown: nothing, one event, and one run of events after another.
+use Rattle.std.proofs.Common.{◌≡◌, inl, inr, ℕ, ◌+◌, ◌-◌, ◌^◌, ◌<◌, ◌≤◌, List, [], ◌∷◌, ◌++◌, Option, Some, None, refl, sym, ◌∙◌, ap, subst, arith, min}
+use Rattle.std.proofs.lemmas.List.{append_assoc, append-nil}
+use Rattle.std.proofs.lemmas.Bool.{cases_lt}
+use Rattle.lego_msg.specs.declared.event.Event.{Event}
+use Rattle.lego_msg.specs.ListWatched.{Seen, next_call}
+use Rattle.lego_msg.specs.Watching.{risen, Calm, Grew, FrontOf, Shown}
+
+pub shown_added : (held : List Event) (e : Event) (n : ℕ) → n ≡ 0 → Shown (Some held) n (Some (held ++ e ∷ [])) n (e ∷ [])
+shown_added held e n first = record {
+  later = omega arith;
+  all = λ calm. refl;
+  some = (record { front = e ∷ []; rest = []; whole = refl }, refl);
+  none = λ some. absurd (omega (arith, first, some));
+}
+
+pub shown_failed : (held : List Event) (e : Event) (n n' : ℕ) → n' ≡ risen n → n ≤ n' → Shown (Some held) n (Some held) n' (e ∷ [])
+shown_failed held e n n' rose later = record {
+  later = later;
+  all = λ calm. absurd (omega (arith, rose, calm));
+  some = (record { front = []; rest = e ∷ []; whole = refl }, ap Some (sym (append-nil held)));
+  none = λ some. refl;
+}
+
+-- the same for a watch in memory: it counted a call, and then a fault, or it added the event
+pub watch_failed : (s s1 s2 : Seen) (e : Event) → s1 ≡ record s { made = next_call s } → s2 ≡ record s1 { faults = risen s1.faults } → s1.faults ≤ s2.faults → Shown (Some s.held) s.faults (Some s2.held) s2.faults (e ∷ [])
+watch_failed s s1 s2 e counted rose later =
+    let held : s2.held ≡ s.held = ap (λ (s : Seen). s.held) rose ∙ ap (λ (s : Seen). s.held) counted in
+    let before : s1.faults ≡ s.faults = ap (λ (s : Seen). s.faults) counted in
+    let faults : s2.faults ≡ risen s.faults = ap (λ (s : Seen). s.faults) rose ∙ ap risen before in
+    subst (λ (l : List Event). Shown (Some s.held) s.faults (Some l) s2.faults (e ∷ [])) (sym held)
+    (shown_failed s.held e s.faults s2.faults faults (omega (arith, later, before)))
+
+pub watch_added : (s s1 s2 : Seen) (e : Event) → s1 ≡ record s { made = next_call s } → s2 ≡ record s1 { held = s1.held ++ e ∷ [] } → s.faults ≡ 0 → Shown (Some s.held) s.faults (Some s2.held) s2.faults (e ∷ [])
+watch_added s s1 s2 e counted grew first =
+    let held : s2.held ≡ s.held ++ e ∷ [] = ap (λ (s : Seen). s.held) grew ∙ ap (λ (s : Seen). s.held ++ e ∷ []) counted in
+    let faults : s2.faults ≡ s.faults = ap (λ (s : Seen). s.faults) grew ∙ ap (λ (s : Seen). s.faults) counted in
+    subst (λ (p : List Event × ℕ). Shown (Some s.held) s.faults (Some p.0) p.1 (e ∷ [])) (λ i. (sym held i, sym faults i))
+    (shown_added s.held e s.faults first)
+
+grew_none : (told : Option (List Event)) → Grew told [] told
+grew_none None = refl
+grew_none (Some held) = ap Some (sym (append-nil held))
+
+pub shown-none : (told : Option (List Event)) (n : ℕ) → Shown told n told n []
+shown-none told n = record {
+  later = omega arith;
+  all = λ calm. grew_none told;
+  some = (record { front = []; rest = []; whole = refl }, grew_none told);
+  none = λ some. refl;
+}
+
+grew_then : (a b c : Option (List Event)) (xs ys : List Event) → Grew a xs b → Grew b ys c → Grew a (xs ++ ys) c
+grew_then None b c xs ys first second = subst (λ (b : Option (List Event)). Grew b ys c) first second
+grew_then (Some held) b c xs ys first second =
+    let there : Grew (Some (held ++ xs)) ys c = subst (λ (b : Option (List Event)). Grew b ys c) first second in
+    there ∙ ap Some (append_assoc held xs ys)
+
+-- the front of the first list, where nothing was added after it
+front_stays : (a b c : Option (List Event)) (xs ys : List Event) → (f : FrontOf xs) × Grew a f.front b → c ≡ b → (f : FrontOf (xs ++ ys)) × Grew a f.front c
+front_stays a b c xs ys (f, grew) same = (
+  record { front = f.front; rest = f.rest ++ ys; whole = sym (append_assoc f.front f.rest ys) ∙ ap (λ (zs : List Event). zs ++ ys) f.whole },
+  subst (λ (c : Option (List Event)). Grew a f.front c) (sym same) grew,
+)
+
+-- the whole first list and a front of the second
+front_grows : (a b c : Option (List Event)) (xs ys : List Event) → Grew a xs b → (f : FrontOf ys) × Grew b f.front c → (f : FrontOf (xs ++ ys)) × Grew a f.front c
+front_grows a b c xs ys first (f, grew) = (
+  record { front = xs ++ f.front; rest = f.rest; whole = append_assoc xs f.front f.rest ∙ ap (λ (zs : List Event). xs ++ zs) f.whole },
+  grew_then a b c xs f.front first grew,
+)
+
+-- one run of events was shown, then another: the whole was shown
+pub shown-then : (a b c : Option (List Event)) (n k l : ℕ) (xs ys : List Event) → Shown a n b k xs → Shown b k c l ys → Shown a n c l (xs ++ ys)
+shown-then a b c n k l xs ys first second = record {
+  later = omega (arith, first.later, second.later);
+  all = λ calm.
+      let calm1 : Calm n k = omega (arith, first.later, second.later, calm) in
+      let calm2 : Calm k l = omega (arith, first.later, second.later, calm) in
+      grew_then a b c xs ys (first.all calm1) (second.all calm2);
+  some = elim (cases_lt k (risen n)) [
+    | inl calm ↦ front_grows a b c xs ys (first.all calm) second.some
+    | inr rose ↦ front_stays a b c xs ys first.some (second.none (omega (arith, rose)))
+  ];
+  none = λ some. second.none (omega (arith, some, first.later)) ∙ first.none some;
+}
