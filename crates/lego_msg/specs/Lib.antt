@@ -14,3 +14,4 @@ pub mod Rest
 pub mod Watching
 pub mod ListWatched
 pub mod Kinds
+pub mod Next

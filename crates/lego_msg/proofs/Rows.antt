@@ -1,0 +1,273 @@
+-- Worked lists, by computation.
+use Rattle.std.specs.Prelude.{◌≡◌, ℕ, ◌+◌, ◌*◌, List, [], ◌∷◌, ◌++◌, length, drop, take, replicate, Option, Some, None, codes, refl}
+use Rattle.lego_base.specs.declared.shape.Shape.{Shape}
+use Rattle.lego_base.specs.declared.shape.CrashAt.{CrashAt}
+use Rattle.lego_base.specs.declared.ids.Pid.{Pid}
+use Rattle.lego_base.specs.declared.ids.MemId.{MemId}
+use Rattle.lego_base.specs.declared.ids.CpuId.{CpuId}
+use Rattle.lego_base.specs.declared.ids.RegionNo.{RegionNo}
+use Rattle.lego_base.specs.declared.records.Area.{Area}
+use Rattle.lego_base.specs.declared.records.Patch.{Patch}
+use Rattle.lego_base.specs.declared.records.HomeEntry.{HomeEntry}
+use Rattle.lego_msg.specs.declared.place.Place.{Place}
+use Rattle.lego_msg.specs.declared.place.Place.TheVariants.{Processor, Memory, Storage, Manager}
+use Rattle.lego_msg.specs.declared.event.Event.{Event}
+use Rattle.lego_msg.specs.declared.event.Event.TheVariants.{Turn, Access, Fill, Drop, Send, Deliver, Crash, Complete, Out}
+use Rattle.lego_msg.specs.declared.event.Kind.TheVariants.{Load, Store, Fetch}
+use Rattle.lego_msg.specs.Kinds.{kind_of}
+use Rattle.lego_msg.specs.Places.{memory}
+use Rattle.lego_msg.specs.Operations.{Operation, Finds, Reads, WritesBack, WritesFill, SetsHome, SetsAreas, Drains}
+use Rattle.lego_msg.specs.Marks.{Order, Mark, Call, Show, Asking, order}
+use Rattle.lego_msg.specs.Track.{Track, start}
+use Rattle.lego_msg.specs.Run.{run}
+use Rattle.lego_msg.specs.Next.{next, played}
+
+-- a message in an event, as a trace has it
+data Brief : Type 0 where
+  send : ℕ → Place → Place → List ℕ → Brief
+  deliver : ℕ → Place → Place → List ℕ → Brief
+  complete : ℕ → Brief
+  crash : ℕ → ℕ → Brief
+  turn : ℕ → Brief
+  access : ℕ → Brief
+  other : Brief
+
+abbrev brief : Event → Brief
+brief (Send m) = send m.op.0 m.from m.to (kind_of m.body)
+brief (Deliver m) = deliver m.op.0 m.from m.to (kind_of m.body)
+brief (Complete op) = complete op.0
+brief (Crash m inc) = crash m.0 inc
+brief (Turn number pid) = turn number
+brief (Access cpu pid address kind bytes) = access address
+brief (Fill pid address bytes) = other
+brief (Drop cpu pid line) = other
+brief (Out stream bytes) = other
+
+abbrev briefs : List Event → List Brief
+briefs [] = []
+briefs (e ∷ es) = brief e ∷ briefs es
+
+abbrev pid1 : Pid
+pid1 = record { 0 = 1 }
+
+abbrev cpu0 : Place
+cpu0 = Processor (record { 0 = 0 })
+
+abbrev mem : ℕ → MemId
+mem n = record { 0 = n }
+
+abbrev region : ℕ → RegionNo
+region n = record { 0 = n }
+
+abbrev home : ℕ → ℕ → HomeEntry
+home r m = record { pid = pid1; region = region r; owner = mem m }
+
+-- THE FIRST RUN: three memories, and a program of one page of code, whose words are at 0x10078
+
+abbrev three : Shape
+three = record {
+  frames = 4096 ∷ 4096 ∷ 4096 ∷ [];
+  log = 256;
+  blocks = 16384;
+  cache_blocks = 64;
+  processors = 2;
+  sets = 64;
+  ways = 4;
+  placement = mem 0 ∷ mem 1 ∷ mem 2 ∷ [];
+  deliveries = 0 ∷ [];
+  crashes = [];
+}
+
+abbrev code_areas : List Area
+code_areas = record { first = record { 0 = 16 }; pages = 1; perms = record { 0 = 5 } } ∷ []
+
+abbrev stack_areas : List Area
+stack_areas = record { first = record { 0 = 67108592 }; pages = 256; perms = record { 0 = 3 } } ∷ []
+
+-- the code's word at 0x10078 and the ones before it
+abbrev code : List ℕ
+code = replicate 120 0 ++ 0x13 ∷ 0x05 ∷ 0x10 ∷ 0x00 ∷ []
+
+abbrev code_patch : Patch
+code_patch = record { pid = pid1; vpn = record { 0 = 16 }; off = 0; bytes = code }
+
+abbrev stack_patch : Patch
+stack_patch = record { pid = pid1; vpn = record { 0 = 67108847 }; off = 4088; bytes = 1 ∷ 0 ∷ [] }
+
+-- booting, and the first fetch
+abbrev boot_marks : List Mark
+boot_marks =
+    Show (Turn 0 (record { 0 = 0 }))
+    ∷ Call (record (order Manager (SetsHome pid1 (region 0) (mem 0))) { owners = home 0 0 ∷ home 131071 1 ∷ [] })
+    ∷ Call (order Manager (SetsHome pid1 (region 131071) (mem 1)))
+    ∷ Call (order Manager (SetsAreas pid1 (region 0) code_areas (mem 0)))
+    ∷ Call (order Manager (SetsAreas pid1 (region 131071) stack_areas (mem 1)))
+    ∷ Show (Fill pid1 0x10000 code)
+    ∷ Call (order Manager (WritesFill code_patch (mem 0)))
+    ∷ Show (Fill pid1 (67108847 * 4096 + 4088) (1 ∷ 0 ∷ []))
+    ∷ Call (order Manager (WritesFill stack_patch (mem 1)))
+    ∷ Show (Turn 1 pid1)
+    ∷ Call (order cpu0 (Finds pid1 (region 0)))
+    ∷ Call (order cpu0 (Reads pid1 (record { 0 = 1025 }) (mem 0)))
+    ∷ Show (Access (record { 0 = 0 }) pid1 0x10078 Fetch (0x13 ∷ 0x05 ∷ 0x10 ∷ 0x00 ∷ []))
+    ∷ []
+
+-- the first turn begins with the seventh operation, and the fetch stands after the line is there
+first_fetch : drop 57 (briefs (played 77 (start three boot_marks))) ≡
+    turn 1
+    ∷ send 7 cpu0 (memory 1) (codes "Find")
+    ∷ deliver 7 cpu0 (memory 1) (codes "Find")
+    ∷ send 7 (memory 1) cpu0 (codes "OwnerIs")
+    ∷ deliver 7 (memory 1) cpu0 (codes "OwnerIs")
+    ∷ complete 7
+    ∷ send 8 cpu0 (memory 0) (codes "Read")
+    ∷ deliver 8 cpu0 (memory 0) (codes "Read")
+    ∷ send 8 (memory 0) cpu0 (codes "Line")
+    ∷ deliver 8 (memory 0) cpu0 (codes "Line")
+    ∷ complete 8
+    ∷ access 0x10078
+    ∷ []
+first_fetch = refl
+
+-- all that was due came
+first_run_ends : next (run (start three boot_marks) (played 77 (start three boot_marks))) ≡ None
+first_run_ends = refl
+
+-- and the byte that was fetched is that of the plain map
+first_run_bytes : (run (start three boot_marks) (played 77 (start three boot_marks))).plain.byte 1 0x10078 ≡ 0x13
+first_run_bytes = refl
+
+-- TWO WRITES INTO A LOG OF ONE PATCH: two memories, the owner is memory 0
+
+abbrev two : List ℕ → List CrashAt → Shape
+two deliveries crashes = record {
+  frames = 64 ∷ 64 ∷ [];
+  log = 1;
+  blocks = 16;
+  cache_blocks = 1;
+  processors = 1;
+  sets = 1;
+  ways = 1;
+  placement = mem 0 ∷ mem 1 ∷ [];
+  deliveries = deliveries;
+  crashes = crashes;
+}
+
+abbrev byte_patch : ℕ → Patch
+byte_patch byte = record { pid = pid1; vpn = record { 0 = 16 }; off = 0; bytes = byte ∷ [] }
+
+abbrev map_marks : List Mark → List Mark
+map_marks due =
+    Show (Turn 0 (record { 0 = 0 }))
+    ∷ Call (record (order Manager (SetsHome pid1 (region 0) (mem 0))) { owners = home 0 0 ∷ [] })
+    ∷ Call (order Manager (SetsAreas pid1 (region 0) code_areas (mem 0)))
+    ∷ due
+
+abbrev fill_marks : ℕ → List Mark → List Mark
+fill_marks byte due = Show (Fill pid1 0x10000 (byte ∷ [])) ∷ Call (order Manager (WritesFill (byte_patch byte) (mem 0))) ∷ due
+
+-- which of the pending messages 2519 picks: the newest of up to ten
+abbrev newest : List ℕ
+newest = 2519 ∷ []
+
+abbrev two_fills : Track
+two_fills = start (two newest []) (map_marks (fill_marks 7 (fill_marks 8 [])))
+
+-- The first patch fills the log, and its batch goes out at once. The second one finds no room: a drain is asked
+-- for, and the patch is sent again once storage has the batch.
+full_log : drop 31 (briefs (played 90 two_fills)) ≡
+    send 4 Manager (memory 1) (codes "LogWrite")
+    ∷ send 4 Manager (memory 0) (codes "Write")
+    ∷ deliver 4 Manager (memory 0) (codes "Write")
+    ∷ send 4 (memory 0) Manager (codes "Wrote")
+    ∷ deliver 4 (memory 0) Manager (codes "Wrote")
+    ∷ deliver 4 Manager (memory 1) (codes "LogWrite")
+    ∷ send 4 (memory 1) Manager (codes "LogFull")
+    ∷ deliver 4 (memory 1) Manager (codes "LogFull")
+    ∷ send 4 Manager (memory 1) (codes "Drain")
+    ∷ deliver 4 Manager (memory 1) (codes "Drain")
+    ∷ deliver 0 (memory 1) Storage (codes "Backup")
+    ∷ send 0 Storage (memory 1) (codes "BackedUp")
+    ∷ deliver 0 Storage (memory 1) (codes "BackedUp")
+    ∷ send 4 (memory 1) Manager (codes "Drained")
+    ∷ deliver 4 (memory 1) Manager (codes "Drained")
+    ∷ send 4 Manager (memory 1) (codes "LogWrite")
+    ∷ deliver 4 Manager (memory 1) (codes "LogWrite")
+    ∷ send 0 (memory 1) Storage (codes "Backup")
+    ∷ send 4 (memory 1) Manager (codes "Wrote")
+    ∷ deliver 4 (memory 1) Manager (codes "Wrote")
+    ∷ complete 4
+    ∷ []
+full_log = refl
+
+-- A CRASH OF THE SECONDARY BETWEEN A LOGWRITE AND ITS ANSWER: after the ninth delivery, with what it sends
+
+abbrev crash_after : ℕ → ℕ → List CrashAt
+crash_after deliveries m = record { turn = 0; after = deliveries; memory = mem m } ∷ []
+
+abbrev one_fill : List CrashAt → Track
+one_fill crashes = start (two (0 ∷ []) crashes) (map_marks (fill_marks 7 []))
+
+-- The batch and the answer are lost with the memory. The manager's moves follow, the owner's answer comes between
+-- them, and then the write is sent again, to both.
+healed_write : drop 22 (briefs (played 120 (one_fill (crash_after 9 1)))) ≡
+    deliver 3 Manager (memory 1) (codes "LogWrite")
+    ∷ send 0 (memory 1) Storage (codes "Backup")
+    ∷ send 3 (memory 1) Manager (codes "Wrote")
+    ∷ crash 1 1
+    ∷ send 4 Manager (memory 0) (codes "Drain")
+    ∷ deliver 3 Manager (memory 0) (codes "Write")
+    ∷ send 3 (memory 0) Manager (codes "Wrote")
+    ∷ deliver 4 Manager (memory 0) (codes "Drain")
+    ∷ send 4 (memory 0) Manager (codes "Drained")
+    ∷ deliver 3 (memory 0) Manager (codes "Wrote")
+    ∷ deliver 4 (memory 0) Manager (codes "Drained")
+    ∷ complete 4
+    ∷ send 5 Manager (memory 0) (codes "PullMeta")
+    ∷ deliver 5 Manager (memory 0) (codes "PullMeta")
+    ∷ send 5 (memory 0) Manager (codes "Meta")
+    ∷ deliver 5 (memory 0) Manager (codes "Meta")
+    ∷ complete 5
+    ∷ send 6 Manager (memory 1) (codes "PushMeta")
+    ∷ deliver 6 Manager (memory 1) (codes "PushMeta")
+    ∷ send 6 (memory 1) Manager (codes "Done")
+    ∷ deliver 6 (memory 1) Manager (codes "Done")
+    ∷ complete 6
+    ∷ send 7 Manager (memory 0) (codes "PullMeta")
+    ∷ deliver 7 Manager (memory 0) (codes "PullMeta")
+    ∷ send 7 (memory 0) Manager (codes "Meta")
+    ∷ deliver 7 (memory 0) Manager (codes "Meta")
+    ∷ complete 7
+    ∷ send 8 Manager (memory 1) (codes "PushMeta")
+    ∷ deliver 8 Manager (memory 1) (codes "PushMeta")
+    ∷ send 8 (memory 1) Manager (codes "Done")
+    ∷ deliver 8 (memory 1) Manager (codes "Done")
+    ∷ complete 8
+    ∷ send 9 Manager (memory 0) (codes "PullPages")
+    ∷ deliver 9 Manager (memory 0) (codes "PullPages")
+    ∷ send 9 (memory 0) Manager (codes "Images")
+    ∷ deliver 9 (memory 0) Manager (codes "Images")
+    ∷ complete 9
+    ∷ send 10 Manager Storage (codes "ResetImages")
+    ∷ deliver 10 Manager Storage (codes "ResetImages")
+    ∷ send 10 Storage Manager (codes "Done")
+    ∷ deliver 10 Storage Manager (codes "Done")
+    ∷ complete 10
+    ∷ send 3 Manager (memory 1) (codes "LogWrite")
+    ∷ send 3 Manager (memory 0) (codes "Write")
+    ∷ deliver 3 Manager (memory 1) (codes "LogWrite")
+    ∷ send 0 (memory 1) Storage (codes "Backup")
+    ∷ send 3 (memory 1) Manager (codes "Wrote")
+    ∷ deliver 3 Manager (memory 0) (codes "Write")
+    ∷ send 3 (memory 0) Manager (codes "Wrote")
+    ∷ deliver 0 (memory 1) Storage (codes "Backup")
+    ∷ send 0 Storage (memory 1) (codes "BackedUp")
+    ∷ deliver 3 (memory 1) Manager (codes "Wrote")
+    ∷ deliver 3 (memory 0) Manager (codes "Wrote")
+    ∷ complete 3
+    ∷ []
+healed_write = refl
+
+-- and the page has the byte: at its owner, and in the plain map
+healed_byte : (run (one_fill (crash_after 9 1)) (played 120 (one_fill (crash_after 9 1)))).plain.byte 1 0x10000 ≡ 7
+healed_byte = refl
