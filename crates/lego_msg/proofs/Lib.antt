@@ -1,2 +1,4 @@
 pub mod ShownLaws
 mod Rows
+mod CacheRows
+pub mod Lists

@@ -1,5 +1,5 @@
 -- Worked lists, by computation.
-use Rattle.std.specs.Prelude.{◌≡◌, ℕ, ◌+◌, ◌*◌, List, [], ◌∷◌, ◌++◌, length, drop, take, replicate, Option, Some, None, codes, refl}
+use Rattle.std.proofs.Common.{◌≡◌, ℕ, ◌+◌, ◌*◌, true, false, List, [], ◌∷◌, ◌++◌, length, drop, replicate, Option, Some, None, codes, refl, ap, arith}
 use Rattle.lego_base.specs.declared.shape.Shape.{Shape}
 use Rattle.lego_base.specs.declared.shape.CrashAt.{CrashAt}
 use Rattle.lego_base.specs.declared.ids.Pid.{Pid}
@@ -11,6 +11,9 @@ use Rattle.lego_base.specs.declared.records.Patch.{Patch}
 use Rattle.lego_base.specs.declared.records.HomeEntry.{HomeEntry}
 use Rattle.lego_msg.specs.declared.place.Place.{Place}
 use Rattle.lego_msg.specs.declared.place.Place.TheVariants.{Processor, Memory, Storage, Manager}
+use Rattle.lego_base.specs.declared.ids.OpNo.{OpNo}
+use Rattle.lego_msg.specs.declared.body.Body.TheVariants as body
+use Rattle.lego_msg.specs.declared.message.Message.{Message}
 use Rattle.lego_msg.specs.declared.event.Event.{Event}
 use Rattle.lego_msg.specs.declared.event.Event.TheVariants.{Turn, Access, Fill, Drop, Send, Deliver, Crash, Complete, Out}
 use Rattle.lego_msg.specs.declared.event.Kind.TheVariants.{Load, Store, Fetch}
@@ -20,6 +23,7 @@ use Rattle.lego_msg.specs.Operations.{Operation, Finds, Reads, WritesBack, Write
 use Rattle.lego_msg.specs.Marks.{Order, Mark, Call, Show, Asking, order}
 use Rattle.lego_msg.specs.Track.{Track, start}
 use Rattle.lego_msg.specs.Run.{run}
+use Rattle.lego_msg.specs.Legal.{May}
 use Rattle.lego_msg.specs.Next.{next, played}
 
 -- a message in an event, as a trace has it
@@ -271,3 +275,104 @@ healed_write = refl
 -- and the page has the byte: at its owner, and in the plain map
 healed_byte : (run (one_fill (crash_after 9 1)) (played 120 (one_fill (crash_after 9 1)))).plain.byte 1 0x10000 ≡ 7
 healed_byte = refl
+
+-- REFUSED: at each of these points another event may come, and not the one that a wrong body would show
+
+-- one byte is filled in; the first so many events of it
+abbrev filling : ℕ → Track
+filling n = run (one_fill []) (played n (one_fill []))
+
+abbrev log_write : Message
+log_write = record { from = Manager; to = memory 1; op = record { 0 = 3 }; body = body.LogWrite (byte_patch 7) }
+
+abbrev write : Message
+write = record { from = Manager; to = memory 0; op = record { 0 = 3 }; body = body.Write (byte_patch 7) }
+
+abbrev wrote : Message
+wrote = record { from = memory 1; to = Manager; op = record { 0 = 3 }; body = body.Wrote }
+
+abbrev op3 : OpNo
+op3 = record { 0 = 3 }
+
+-- the length of a kind's name tells these messages apart
+abbrev name_length : Message → ℕ
+name_length m = length (kind_of m.body)
+
+abbrev picked_length : Option Message → ℕ
+picked_length None = 0
+picked_length (Some m) = name_length m
+
+-- the list by itself is as it should be: these events may come where they come
+log_write_first : May (filling 20) (Send log_write)
+log_write_first = (refl, (refl, refl, refl))
+
+oldest_first : May (filling 22) (Deliver log_write)
+oldest_first = record { owed = refl; waiting = refl; calm = refl; chosen = refl }
+
+complete_at_last : May (filling 31) (Complete op3)
+complete_at_last = record { owed = refl; goes_on = refl; complete = refl }
+
+-- the owner's message before the secondary's
+send_out_of_order : May (filling 20) (Send write) → ⊥
+send_out_of_order may =
+    let same : 5 ≡ 8 = ap name_length may.1.0 in
+    omega (arith, same)
+
+-- the answer before the batch that goes out with it
+answer_before_backup : May (filling 23) (Send wrote) → ⊥
+answer_before_backup may =
+    let same : 5 ≡ 6 = ap name_length may in
+    omega (arith, same)
+
+-- a pending message that the delivery list doesn't pick
+wrong_pick : May (filling 22) (Deliver write) → ⊥
+wrong_pick may =
+    let same : 8 ≡ 5 = ap picked_length may.chosen in
+    omega (arith, same)
+
+-- a completion one delivery too early: the owner's answer is still pending
+complete_too_early : May (filling 30) (Complete op3) → ⊥
+complete_too_early may =
+    let early : false ≡ true = may.complete in
+    cc early
+
+-- a delivery where the completion is due
+delivery_too_late : (m : Message) → May (filling 31) (Deliver m) → ⊥
+delivery_too_late m may =
+    let late : false ≡ true = may.calm in
+    cc late
+
+-- The secondary crashes once its answer was delivered, and the owner's answer is delivered then: each has answered,
+-- but the secondary not since its crash.
+abbrev crashing : ℕ → Track
+crashing n = run (one_fill (crash_after 12 1)) (played n (one_fill (crash_after 12 1)))
+
+answer_before_crash : May (crashing 33) (Complete op3) → ⊥
+answer_before_crash may =
+    let early : false ≡ true = may.complete in
+    cc early
+
+both_answered : drop 29 (briefs (played 33 (one_fill (crash_after 12 1)))) ≡
+    deliver 3 (memory 1) Manager (codes "Wrote")
+    ∷ crash 1 1
+    ∷ send 4 Manager (memory 0) (codes "Drain")
+    ∷ deliver 3 (memory 0) Manager (codes "Wrote")
+    ∷ []
+both_answered = refl
+
+-- a crash one delivery too early, and one where the list has none
+crash_too_early : May (crashing 27) (Crash (mem 1) 1) → ⊥
+crash_too_early may =
+    let early : false ≡ true = may.moment in
+    cc early
+
+crash_of_no_entry : May (filling 30) (Crash (mem 1) 1) → ⊥
+crash_of_no_entry may = may.entry
+
+-- a fetch of a line that no read brought
+fetch_without_line : May (start three (Show (Access (record { 0 = 0 }) pid1 0x10078 Fetch (1 ∷ [])) ∷ [])) (Access (record { 0 = 0 }) pid1 0x10078 Fetch (1 ∷ [])) → ⊥
+fetch_without_line may = may.1
+
+-- an operation that isn't called for
+write_not_called_for : May (start three []) (Send write) → ⊥
+write_not_called_for may = may.1

@@ -15,3 +15,4 @@ pub mod Watching
 pub mod ListWatched
 pub mod Kinds
 pub mod Next
+pub mod Laws

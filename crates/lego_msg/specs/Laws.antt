@@ -1,0 +1,123 @@
+-- What a reader may ask of legal lists.
+use Rattle.std.specs.Prelude.{◌≡◌, ◌⊎◌, ℕ, ◌+◌, ◌%◌, ◌==◌, Bool, true, false, not, ◌&&◌, ◌||◌, if◌then◌else◌, List, [], ◌∷◌, ◌++◌, map, length, take, drop, Option, Some, None, slice_get}
+use Rattle.lego_base.specs.declared.shape.Shape.{Shape}
+use Rattle.lego_base.specs.declared.shape.CrashAt.{CrashAt}
+use Rattle.lego_msg.specs.declared.place.Place.{Place}
+use Rattle.lego_msg.specs.declared.place.Place.TheVariants.{Processor, Memory, Storage, Manager}
+use Rattle.lego_msg.specs.declared.body.Body.{Body}
+use Rattle.lego_msg.specs.declared.body.Body.TheVariants.{LogFull, Drained}
+use Rattle.lego_msg.specs.declared.message.Message.{Message}
+use Rattle.lego_msg.specs.declared.event.Event.{Event}
+use Rattle.lego_msg.specs.declared.event.Event.TheVariants.{Turn, Access, Fill, Drop, Send, Deliver, Crash, Complete, Out}
+use Rattle.lego_msg.specs.Places.{memory, same_place, lose}
+use Rattle.lego_msg.specs.State.{Mem, Disk, lost}
+use Rattle.lego_msg.specs.Table.{handled, stored}
+use Rattle.lego_msg.specs.Operations.{Operation, patch_of}
+use Rattle.lego_msg.specs.Marks.{Mark}
+use Rattle.lego_msg.specs.Track.{Open, Track, start, picked, taken_out, is_complete, healing_move, is_done, next_crash}
+use Rattle.lego_msg.specs.Run.{after, run}
+use Rattle.lego_msg.specs.Legal.{May, Legal}
+use Rattle.lego_msg.specs.Watching.{Shown}
+
+-- WHOLE LISTS
+
+-- A list is legal just where its first part is and, from where that leads, its second part is; and where the two
+-- lead is one after the other.
+abbrev pub CutAndJoined : Type 0
+CutAndJoined = (t : Track) (es fs : List Event) →
+    (Legal t (es ++ fs) → Legal t es × Legal (run t es) fs)
+    × (Legal t es → Legal (run t es) fs → Legal t (es ++ fs))
+    × (run t (es ++ fs) ≡ run (run t es) fs)
+
+-- What was shown of a run of events and then of another was shown of both.
+abbrev pub ShownJoin : Type 0
+ShownJoin = (told told' told'' : Option (List Event)) (n n' n'' : ℕ) (es fs : List Event) → Shown told n told' n' es → Shown told' n' told'' n'' fs → Shown told n told'' n'' (es ++ fs)
+
+-- DELIVERIES
+
+-- how many deliveries a list has
+abbrev pub deliveries_in : List Event → ℕ
+deliveries_in [] = 0
+deliveries_in (Turn number pid ∷ es) = deliveries_in es
+deliveries_in (Access cpu pid address kind bytes ∷ es) = deliveries_in es
+deliveries_in (Fill pid address bytes ∷ es) = deliveries_in es
+deliveries_in (Drop cpu pid line ∷ es) = deliveries_in es
+deliveries_in (Send m ∷ es) = deliveries_in es
+deliveries_in (Deliver m ∷ es) = 1 + deliveries_in es
+deliveries_in (Crash number inc ∷ es) = deliveries_in es
+deliveries_in (Complete op ∷ es) = deliveries_in es
+deliveries_in (Out stream bytes ∷ es) = deliveries_in es
+
+-- What is pending after some events, given the delivery list, the deliveries before them and what was pending then:
+-- what was sent, not delivered and not lost, in order of sending.
+abbrev pub pending_along : List ℕ → ℕ → List Message → List Event → List Message
+pending_along ds n pending [] = pending
+pending_along ds n pending (Turn number pid ∷ es) = pending_along ds n pending es
+pending_along ds n pending (Access cpu pid address kind bytes ∷ es) = pending_along ds n pending es
+pending_along ds n pending (Fill pid address bytes ∷ es) = pending_along ds n pending es
+pending_along ds n pending (Drop cpu pid line ∷ es) = pending_along ds n pending es
+pending_along ds n pending (Send m ∷ es) = pending_along ds n (pending ++ m ∷ []) es
+pending_along ds n pending (Deliver m ∷ es) = pending_along ds (n + 1) (taken_out ds n pending) es
+pending_along ds n pending (Crash number inc ∷ es) = pending_along ds n (lose (memory number.0) pending) es
+pending_along ds n pending (Complete op ∷ es) = pending_along ds n pending es
+pending_along ds n pending (Out stream bytes ∷ es) = pending_along ds n pending es
+
+abbrev pub pending_of : List ℕ → List Event → List Message
+pending_of ds es = pending_along ds 0 [] es
+
+-- In a legal list each delivery takes the message that the delivery list picks from what is pending.
+abbrev pub DeliveriesArePicked : Type 0
+DeliveriesArePicked = (shape : Shape) (due : List Mark) (es fs : List Event) (m : Message) → Legal (start shape due) (es ++ Deliver m ∷ fs) → picked shape.deliveries (deliveries_in es) (pending_of shape.deliveries es) ≡ Some m
+
+-- WHAT COMPONENTS HOLD AND SEND
+
+-- one memory, from a state on: the table at each delivery to it, and nothing left at its crash
+abbrev pub memory_after : ℕ → Mem → Message → Place → Mem
+memory_after c s m (Processor cpu) = s
+memory_after c s m (Memory number) = if number.0 == c then (handled s m).0 else s
+memory_after c s m Storage = s
+memory_after c s m Manager = s
+
+abbrev pub memory_along : ℕ → Mem → List Event → Mem
+memory_along c s [] = s
+memory_along c s (Turn number pid ∷ es) = memory_along c s es
+memory_along c s (Access cpu pid address kind bytes ∷ es) = memory_along c s es
+memory_along c s (Fill pid address bytes ∷ es) = memory_along c s es
+memory_along c s (Drop cpu pid line ∷ es) = memory_along c s es
+memory_along c s (Send m ∷ es) = memory_along c s es
+memory_along c s (Deliver m ∷ es) = memory_along c (memory_after c s m m.to) es
+memory_along c s (Crash number inc ∷ es) = memory_along c (if number.0 == c then lost s else s) es
+memory_along c s (Complete op ∷ es) = memory_along c s es
+memory_along c s (Out stream bytes ∷ es) = memory_along c s es
+
+-- storage
+abbrev pub storage_after : Disk → Message → Place → Disk
+storage_after d m (Processor cpu) = d
+storage_after d m (Memory number) = d
+storage_after d m Storage = (stored d m).0
+storage_after d m Manager = d
+
+abbrev pub storage_along : Disk → List Event → Disk
+storage_along d [] = d
+storage_along d (Turn number pid ∷ es) = storage_along d es
+storage_along d (Access cpu pid address kind bytes ∷ es) = storage_along d es
+storage_along d (Fill pid address bytes ∷ es) = storage_along d es
+storage_along d (Drop cpu pid line ∷ es) = storage_along d es
+storage_along d (Send m ∷ es) = storage_along d es
+storage_along d (Deliver m ∷ es) = storage_along (storage_after d m m.to) es
+storage_along d (Crash number inc ∷ es) = storage_along d es
+storage_along d (Complete op ∷ es) = storage_along d es
+storage_along d (Out stream bytes ∷ es) = storage_along d es
+
+-- events begin with these sends, or are some first ones of them
+abbrev pub BeginsWith : List Message → List Event → Type 0
+BeginsWith [] es = Unit {0}
+BeginsWith (m ∷ messages) [] = Unit {0}
+BeginsWith (m ∷ messages) (e ∷ es) = (e ≡ Send m) × BeginsWith messages es
+
+-- What a memory sends for a message stands directly after its delivery, and is just what the table gives for its
+-- state and that message; and so for storage.
+abbrev pub SendsFollow : Type 0
+SendsFollow = (shape : Shape) (due : List Mark) (es fs : List Event) (m : Message) → Legal (start shape due) (es ++ Deliver m ∷ fs) →
+    ((c : _) (s : Mem) → m.to ≡ Memory c → slice_get (start shape due).mems c.0 ≡ Some s → BeginsWith (handled (memory_along c.0 s es) m).1 fs)
+    × (m.to ≡ Storage → BeginsWith (stored (storage_along (start shape due).disk es) m).1 fs)
