@@ -2,3 +2,4 @@ pub mod ShownLaws
 mod Rows
 mod CacheRows
 pub mod Lists
+pub mod Flow
