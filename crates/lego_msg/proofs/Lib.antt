@@ -3,3 +3,4 @@ mod Rows
 mod CacheRows
 pub mod Lists
 pub mod Flow
+pub mod Senders
