@@ -138,5 +138,5 @@ sends-follow shape due es fs m legal =
     let front : Legal t es = Legal-front t es (Deliver m ∷ fs) legal in
     let back : Legal (run t es) (Deliver m ∷ fs) = Legal-back t es (Deliver m ∷ fs) legal in (
       λ c s to at. owed_along _ (after (run t es) (Deliver m)) fs (memory_owes (taken (run t es)) m c (memory_along c.0 s es) m.to to (mem_along c.0 s t es front at)) back.1,
-      λ to. owed_along _ (after (run t es) (Deliver m)) fs (storage_owes (taken (run t es)) m m.to to ∙ ap (λ (d : Disk). (stored d m).1) (disk_along t es front)) back.1
+      λ to. owed_along _ (after (run t es) (Deliver m)) fs (storage_owes (taken (run t es)) m m.to to ∙ ap (λ (d : Disk). (stored d m).1) (disk_along t es front)) back.1,
     )

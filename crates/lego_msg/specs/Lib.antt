@@ -16,3 +16,4 @@ pub mod ListWatched
 pub mod Kinds
 pub mod Next
 pub mod Laws
+pub mod Judged
