@@ -4,3 +4,4 @@ mod CacheRows
 pub mod Lists
 pub mod Flow
 pub mod Senders
+pub mod Moments

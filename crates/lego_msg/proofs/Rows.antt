@@ -333,7 +333,7 @@ wrong_pick may =
 -- a completion one delivery too early: the owner's answer is still pending
 complete_too_early : May (filling 30) (Complete op3) → ⊥
 complete_too_early may =
-    let early : false ≡ true = may.complete in
+    let early : None ≡ Some 3 = may.complete in
     cc early
 
 -- a delivery where the completion is due
@@ -349,7 +349,7 @@ crashing n = run (one_fill (crash_after 12 1)) (played n (one_fill (crash_after 
 
 answer_before_crash : May (crashing 33) (Complete op3) → ⊥
 answer_before_crash may =
-    let early : false ≡ true = may.complete in
+    let early : None ≡ Some 3 = may.complete in
     cc early
 
 both_answered : drop 29 (briefs (played 33 (one_fill (crash_after 12 1)))) ≡

@@ -33,7 +33,7 @@ get_set_other (x ∷ xs) (suc i) (suc j) new differ = get_set_other xs i j new (
 none_some : {X : Type 0} (x : X) → None ≡ Some x → ⊥
 none_some x e = cc e
 
-same_some : {X : Type 0} (x y : X) → Some x ≡ Some y → x ≡ y
+pub same_some : {X : Type 0} (x y : X) → Some x ≡ Some y → x ≡ y
 same_some x y e = cc e
 
 differ : (i j : ℕ) → eqb i j ≡ false → i ≡ j → ⊥

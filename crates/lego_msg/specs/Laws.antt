@@ -1,5 +1,7 @@
 -- What a reader may ask of legal lists.
 use Rattle.std.specs.Prelude.{◌≡◌, ◌⊎◌, ℕ, ◌+◌, ◌%◌, ◌==◌, Bool, true, false, not, ◌&&◌, ◌||◌, if◌then◌else◌, List, [], ◌∷◌, ◌++◌, map, length, take, drop, Option, Some, None, slice_get}
+use Rattle.lego_base.specs.declared.ids.MemId.{MemId}
+use Rattle.lego_base.specs.declared.ids.OpNo.{OpNo}
 use Rattle.lego_base.specs.declared.shape.Shape.{Shape}
 use Rattle.lego_base.specs.declared.shape.CrashAt.{CrashAt}
 use Rattle.lego_msg.specs.declared.place.Place.{Place}
@@ -13,10 +15,10 @@ use Rattle.lego_msg.specs.Places.{memory, same_place, lose}
 use Rattle.lego_msg.specs.State.{Mem, Disk, lost}
 use Rattle.lego_msg.specs.Table.{handled, stored}
 use Rattle.lego_msg.specs.Operations.{Operation, patch_of}
-use Rattle.lego_msg.specs.Marks.{Mark}
-use Rattle.lego_msg.specs.Track.{Open, Track, start, picked, taken_out, is_complete, healing_move, is_done, next_crash}
+use Rattle.lego_msg.specs.Marks.{Mark, is_turn_end}
+use Rattle.lego_msg.specs.Track.{Open, Clock, Track, start, picked, taken_out, is_complete, healing_move, is_any_done, next_crash, is_crash_due, entries_below}
 use Rattle.lego_msg.specs.Run.{after, run}
-use Rattle.lego_msg.specs.Legal.{May, Legal}
+use Rattle.lego_msg.specs.Legal.{Legal, is_idle, next_due}
 use Rattle.lego_msg.specs.Watching.{Shown}
 
 -- WHOLE LISTS
@@ -121,3 +123,62 @@ abbrev pub SendsFollow : Type 0
 SendsFollow = (shape : Shape) (due : List Mark) (es fs : List Event) (m : Message) → Legal (start shape due) (es ++ Deliver m ∷ fs) →
     ((c : _) (s : Mem) → m.to ≡ Memory c → slice_get (start shape due).mems c.0 ≡ Some s → BeginsWith (handled (memory_along c.0 s es) m).1 fs)
     × (m.to ≡ Storage → BeginsWith (stored (storage_along (start shape due).disk es) m).1 fs)
+
+-- COMPLETIONS
+
+abbrev pub IsOpen : Track → Open → Type 0
+IsOpen t o = (healing_move t.healing ≡ Some o) ⊎ (t.current ≡ Some o)
+
+-- A completion stands where its operation is open and complete.
+abbrev pub CompletionsAreDue : Type 0
+CompletionsAreDue = (t : Track) (es fs : List Event) (op : OpNo) → Legal t (es ++ Complete op ∷ fs) → (o : Open) × IsOpen (run t es) o × (o.number ≡ op.0) × (is_complete (run t es).net o ≡ true)
+
+-- It stands at the first such point: where an operation is complete and all that was caused is sent, nothing else
+-- comes.
+abbrev pub CompletionsAreFirst : Type 0
+CompletionsAreFirst = (t : Track) (es fs : List Event) (e : Event) → Legal t (es ++ e ∷ fs) → (run t es).owed ≡ [] → is_any_done (run t es) ≡ true → (op : OpNo) × (e ≡ Complete op)
+
+-- CRASHES
+
+-- the clock after some events: the turn, its deliveries, and the entries of the crash list that are passed
+abbrev pub clock_after : Shape → Clock → Event → Clock
+clock_after shape c (Turn number pid) = record { begun = true; turn = number; since = 0; passed = entries_below number shape.crashes }
+clock_after shape c (Access cpu pid address kind bytes) = c
+clock_after shape c (Fill pid address bytes) = c
+clock_after shape c (Drop cpu pid line) = c
+clock_after shape c (Send m) = c
+clock_after shape c (Deliver m) = record c { since = c.since + 1 }
+clock_after shape c (Crash number inc) = record c { passed = c.passed + 1 }
+clock_after shape c (Complete op) = c
+clock_after shape c (Out stream bytes) = c
+
+abbrev pub clock_along : Shape → Clock → List Event → Clock
+clock_along shape c [] = c
+clock_along shape c (e ∷ es) = clock_along shape (clock_after shape c e) es
+
+abbrev pub no_clock : Clock
+no_clock = record { begun = false; turn = 0; since = 0; passed = 0 }
+
+-- nothing is open or healing, and what is still to come of this turn is nothing
+abbrev pub IsTurnOver : Track → Type 0
+IsTurnOver t = (is_idle t.healing t.current ≡ true) × (is_turn_end (next_due t) ≡ true)
+
+-- The moment of an entry of the crash list, where the clock is this: its turn, after so many deliveries of it, or at
+-- the turn's end where there were fewer.
+pub record IsMoment (t : Track) (clock : Clock) (number : ℕ) : Type 0 where
+  pub entry : CrashAt
+  pub is : next_crash t.shape clock ≡ Some entry
+  pub memory : entry.memory.0 ≡ number
+  pub turn : (clock.begun ≡ true) × (entry.turn ≡ clock.turn)
+  pub moment : (entry.after ≡ clock.since) ⊎ IsTurnOver t
+
+-- Each crash stands at its entry's moment, with the incarnation of its memory raised by one.
+abbrev pub CrashesStandAtTheirMoment : Type 0
+CrashesStandAtTheirMoment = (shape : Shape) (due : List Mark) (es fs : List Event) (c : MemId) (inc : ℕ) → Legal (start shape due) (es ++ Crash c inc ∷ fs) →
+    IsMoment (run (start shape due) es) (clock_along shape no_clock es) c.0
+    × ((s : Mem) → slice_get (start shape due).mems c.0 ≡ Some s → inc ≡ (memory_along c.0 s es).inc + 1)
+
+-- And it does stand there: once so many deliveries came, all that they caused is sent and what is complete is shown,
+-- nothing else comes.
+abbrev pub CrashesAreDue : Type 0
+CrashesAreDue = (t : Track) (es fs : List Event) (e : Event) → Legal t (es ++ e ∷ fs) → (run t es).owed ≡ [] → is_any_done (run t es) ≡ false → is_crash_due (run t es) ≡ true → (c : MemId) × (inc : ℕ) × (e ≡ Crash c inc)

@@ -1,6 +1,6 @@
 -- Which event may come next, and which lists of events are legal. A list that is cut off is legal too: each of
 -- its events stands where it may stand, and what must follow the last one may be missing.
-use Rattle.std.specs.Prelude.{◌≡◌, ℕ, ◌+◌, ◌*◌, ◌/◌, ◌%◌, ◌==◌, nat_le, Bool, true, false, not, ◌&&◌, ◌||◌, List, [], ◌∷◌, ◌++◌, length, take, drop, Option, Some, None, is_some, slice_get}
+use Rattle.std.specs.Prelude.{◌≡◌, ℕ, ◌+◌, ◌*◌, ◌/◌, ◌%◌, ◌==◌, nat_le, Bool, true, false, not, ◌&&◌, ◌||◌, if◌then◌else◌, List, [], ◌∷◌, ◌++◌, length, take, drop, Option, Some, None, is_some, slice_get}
 use Rattle.lego_base.specs.declared.records.Patch.{Patch}
 use Rattle.lego_base.specs.declared.shape.CrashAt.{CrashAt}
 use Rattle.lego_msg.specs.declared.place.Place.{Place}
@@ -128,14 +128,18 @@ pub record MayDeliver (t : Track) (m : Message) : Type 0 where
 -- COMPLETIONS: where the operation is complete, and so at the first such point, since nothing else may come
 -- there
 
-abbrev pub is_done_as : ℕ → List Message → Option Open → Bool
-is_done_as number pending None = false
-is_done_as number pending (Some o) = o.number == number && is_complete pending o
+-- the number of the operation that is complete, a move of healing first
+abbrev pub done_or : List Message → Option Open → Option ℕ → Option ℕ
+done_or pending None else_ = else_
+done_or pending (Some o) else_ = if is_complete pending o then Some o.number else else_
+
+abbrev pub first_done : Track → Option ℕ
+first_done t = done_or t.net (healing_move t.healing) (done_or t.net t.current None)
 
 pub record MayComplete (t : Track) (number : ℕ) : Type 0 where
   pub owed : t.owed ≡ []
   pub goes_on : t.stopped ≡ false
-  pub complete : (is_done_as number t.net (healing_move t.healing) || is_done_as number t.net t.current) ≡ true
+  pub complete : first_done t ≡ Some number
 
 -- CRASHES: at an entry's moment, after so many deliveries of its turn with what they send and complete, or at
 -- the turn's end where there are fewer

@@ -61,13 +61,13 @@ abbrev pub complete_next : List Message → Option Open → Option Event → Opt
 complete_next pending None else_ = else_
 complete_next pending (Some o) else_ = if is_complete pending o then Some (Complete (record { 0 = o.number })) else else_
 
--- what is owed, else a completion, else the rest
+-- what is owed, else a completion, else the rest; nothing once the run was stopped by a refusal
 abbrev pub owed_next : Track → List Message → Option Event
 owed_next t (m ∷ owed) = Some (Send m)
-owed_next t [] = complete_next t.net (healing_move t.healing) (complete_next t.net t.current (crash_or_open t))
+owed_next t [] = if t.stopped then None else complete_next t.net (healing_move t.healing) (complete_next t.net t.current (crash_or_open t))
 
 abbrev pub next : Track → Option Event
-next t = if t.stopped then None else owed_next t t.owed
+next t = owed_next t t.owed
 
 -- the next events, so many at most
 abbrev pub played_on : ℕ → Track → Option Event → (Track → List Event) → List Event

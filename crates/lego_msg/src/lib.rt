@@ -8,6 +8,7 @@ mod copies; // copies of lists
 mod count_watch; // a watch that tells nothing
 mod event; // what happened
 mod judge; // what the list of events alone decides
+mod laws; // what a reader may ask of legal lists
 mod list_watch; // a watch in memory
 mod message; // from, to, operation, body
 mod outbox; // what a component sends
@@ -18,6 +19,11 @@ pub use body::Body;
 pub use count_watch::CountWatch;
 pub use event::{Event, Kind};
 pub use judge::{has_answered, is_complete, is_pending, picked};
+pub use laws::{
+    completions_are_due, completions_are_first, crashes_are_due, crashes_stand_at_their_moment,
+    deliveries_are_picked, legal_lists_are_cut_and_joined, sends_follow_their_delivery,
+    shown_runs_are_joined,
+};
 pub use list_watch::ListWatch;
 pub use message::Message;
 pub use outbox::Outbox;

@@ -1,0 +1,41 @@
+ghost use Rattle.lego_msg.specs.Laws.{CutAndJoined, ShownJoin, DeliveriesArePicked, SendsFollow, CompletionsAreDue, CompletionsAreFirst, CrashesStandAtTheirMoment, CrashesAreDue};
+
+/// Legal lists may be cut anywhere and joined again.
+pub fn legal_lists_are_cut_and_joined()
+    ensures { CutAndJoined }
+{}
+
+/// What was shown of one run of events and then of another was shown of both.
+pub fn shown_runs_are_joined()
+    ensures { ShownJoin }
+{}
+
+/// Each delivery takes the message that the delivery list picks from what is pending.
+pub fn deliveries_are_picked()
+    ensures { DeliveriesArePicked }
+{}
+
+/// What a memory or storage sends for a message stands directly after its delivery, and is what the table gives.
+pub fn sends_follow_their_delivery()
+    ensures { SendsFollow }
+{}
+
+/// A completion stands where its operation is complete.
+pub fn completions_are_due()
+    ensures { CompletionsAreDue }
+{}
+
+/// A completion stands at the first such point.
+pub fn completions_are_first()
+    ensures { CompletionsAreFirst }
+{}
+
+/// Each crash stands at its entry's moment.
+pub fn crashes_stand_at_their_moment()
+    ensures { CrashesStandAtTheirMoment }
+{}
+
+/// At an entry's moment its crash does stand.
+pub fn crashes_are_due()
+    ensures { CrashesAreDue }
+{}
