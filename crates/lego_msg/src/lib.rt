@@ -29,3 +29,6 @@ pub use message::Message;
 pub use outbox::Outbox;
 pub use place::{Place, Role, Why};
 pub use watch::Watch;
+
+#[cfg(test)]
+mod tests;

@@ -1,0 +1,154 @@
+use super::*;
+use lego_base::{
+    Area, Bytes, FileNo, HomeEntry, MemId, NameEntry, NoMemory, OpNo, PageImage, Patch, Perms, Pid,
+    RegionNo, Seq, SpaceAreas, Vpn,
+};
+use std::alloc::Global;
+use std::test::Fail;
+
+const M1: Place = Place::Memory(MemId(1));
+
+fn bytes(alloc: Global) -> Result<Bytes, NoMemory> {
+    Bytes::from_slice(alloc, b"ab".as_slice())
+}
+
+fn one<T: Drop>(alloc: Global, item: T) -> Result<Seq<T>, NoMemory> {
+    let mut list = Seq::new(alloc);
+    list.push(item)?;
+    Ok(list)
+}
+
+fn patch(alloc: Global) -> Result<Patch, NoMemory> {
+    Ok(Patch {
+        pid: Pid(1),
+        vpn: Vpn(16),
+        off: 8,
+        bytes: bytes(alloc)?,
+    })
+}
+
+fn batch(alloc: Global) -> Result<Body, NoMemory> {
+    Ok(Body::Backup {
+        patches: one(alloc, patch(alloc)?)?,
+    })
+}
+
+fn images(alloc: Global) -> Result<Body, NoMemory> {
+    let page = PageImage {
+        pid: Pid(2),
+        vpn: Vpn(3),
+        bytes: bytes(alloc)?,
+    };
+    Ok(Body::Images {
+        pages: one(alloc, page)?,
+    })
+}
+
+fn names(alloc: Global) -> Result<Body, NoMemory> {
+    let entry = NameEntry {
+        name: bytes(alloc)?,
+        file: FileNo(4),
+    };
+    Ok(Body::Names {
+        list: one(alloc, entry)?,
+    })
+}
+
+fn meta(alloc: Global) -> Result<Body, NoMemory> {
+    let home = HomeEntry {
+        pid: Pid(1),
+        region: RegionNo(0),
+        owner: MemId(1),
+    };
+    let area = Area {
+        first: Vpn(16),
+        pages: 2,
+        perms: Perms::READ,
+    };
+    let space = SpaceAreas {
+        pid: Pid(1),
+        region: RegionNo(0),
+        areas: one(alloc, area)?,
+    };
+    Ok(Body::PushMeta {
+        role: Role::Spare,
+        homes: one(alloc, home)?,
+        areas: one(alloc, space)?,
+    })
+}
+
+fn from_m1(body: Body) -> Message {
+    Message {
+        from: M1,
+        to: Place::Manager,
+        op: OpNo(3),
+        body,
+    }
+}
+
+// Whether the copy of an event is written as the event is.
+fn copies_alike(alloc: Global, body: Body) -> Result<bool, Fail> {
+    let event = Event::Send(from_m1(body));
+    let copy = event.copy(alloc).map_err(|_| "memory")?;
+    let written = format!(in alloc; "{event:?}")?;
+    let again = format!(in alloc; "{copy:?}")?;
+    Ok(written.as_str() == again.as_str())
+}
+
+#[test]
+fn copies_are_alike(rt: HostRuntime) -> Result<(), Fail> {
+    let alloc = rt.alloc();
+    for body in [batch(alloc), images(alloc), names(alloc), meta(alloc)] {
+        let body = body.map_err(|_| "memory")?;
+        assert!(rt; copies_alike(alloc, body)?);
+    }
+    Ok(())
+}
+
+#[test]
+fn kinds_have_their_names(rt: HostRuntime) {
+    assert_eq!(rt; Body::BackedUp.kind(), "BackedUp");
+    assert_eq!(rt; Body::Refused(Why::NoArea).kind(), "Refused");
+}
+
+#[test]
+fn a_watch_holds_events_up_to_its_first_fault(rt: HostRuntime) -> Result<(), Fail> {
+    let mut watch = ListWatch::new(rt.alloc(), &[2]).map_err(|_| "memory")?;
+    for (op, held, faults) in [(1, 1, 0), (2, 1, 1), (3, 1, 2)] {
+        watch.see(&Event::Complete(OpNo(op)));
+        assert_eq!(rt; watch.events().len(), held);
+        assert_eq!(rt; watch.faults(), faults);
+    }
+    Ok(())
+}
+
+#[test]
+fn the_delivery_list_picks(rt: HostRuntime) {
+    for (number, pending, place) in [
+        (0, 3, Some(0)),
+        (1, 3, Some(2)),
+        (3, 10, Some(9)),
+        (2, 0, None),
+    ] {
+        assert_eq!(rt; picked([0, 2519].as_slice(), number, pending), place);
+    }
+}
+
+#[test]
+fn a_crash_forgets_answers(rt: HostRuntime) {
+    let answer = Event::Deliver(from_m1(Body::Wrote));
+    let crash = Event::Crash {
+        memory: MemId(1),
+        inc: 1,
+    };
+    let again = Event::Deliver(from_m1(Body::Wrote));
+    let events = [answer, crash, again];
+    for (count, answered) in [(0, false), (1, true), (2, false), (3, true)] {
+        let (shown, _) = events.as_slice().split_at(count);
+        assert_eq!(rt; has_answered(OpNo(3), true, M1, shown), answered);
+        assert_eq!(rt;
+            is_complete(OpNo(3), true, [M1].as_slice(), shown, [].as_slice()),
+            answered
+        );
+    }
+}
