@@ -123,9 +123,11 @@ pub record AtRest (t : Track) : Type 0 where
   pub pending : AllByRecursion (IsLeft t) t.net
   pub unowned : (pid region : ℕ) → owner_of t.owners pid region ≡ None → t.plain.areas pid region ≡ []
 
--- outside a call besides, each owned region has its entry at the home of its process
-abbrev pub HomesAreWhole : Track → Type 0
-HomesAreWhole t = (m : ℕ) (s : Mem) → slice_get t.mems m ≡ Some s → (pid region : ℕ) → home_of (memory_count t.shape) pid ≡ m → owner_of s.main.homes pid region ≡ owner_of t.owners pid region
+-- Outside a call besides: each owned region has its entry at the home of its process, and the areas of a process
+-- are at most 256 runs.
+pub record OutsideCalls (t : Track) : Type 0 where
+  pub homes : (m : ℕ) (s : Mem) → slice_get t.mems m ≡ Some s → (pid region : ℕ) → home_of (memory_count t.shape) pid ≡ m → owner_of s.main.homes pid region ≡ owner_of t.owners pid region
+  pub runs : (pid : ℕ) → (areas : List Area) × (length areas ≤ 256) × ((vpn : ℕ) → perms_of areas vpn ≡ perms_of (t.plain.areas pid (vpn / 512)) vpn)
 
 -- WHILE AN OPERATION IS OPEN OR A HEALING RUNS
 

@@ -16,7 +16,7 @@ use Rattle.lego_msg.specs.declared.event.Kind.TheVariants.{Load, Store, Fetch, C
 use Rattle.lego_msg.specs.declared.event.Event.{Event}
 use Rattle.lego_msg.specs.declared.event.Event.TheVariants.{Turn, Access, Fill, Drop, Send, Deliver, Crash, Complete, Out}
 use Rattle.lego_msg.specs.Places.{memory, lose}
-use Rattle.lego_msg.specs.Maps.{Key, key_at, is_of, is_at, put_all, without, those, home_key, owner_of, laid_over}
+use Rattle.lego_msg.specs.Maps.{Key, key_at, find, is_of, is_at, put_all, without, those, home_key, owner_of, laid_over}
 use Rattle.lego_msg.specs.State.{Mem, lost}
 use Rattle.lego_msg.specs.Table.{handled, stored}
 use Rattle.lego_msg.specs.Operations.{Operation, Finds, Reads, WritesBack, WritesFill, SetsHome, SetsAreas, AsksAreas, Drains, Unmaps, Copies, Drops, ReadsFile, WritesFile, CutsFile, AsksSize, GetsName, MakesName, CutsName, ListsNames, FreesFile, Heals, patch_of, effect}
@@ -70,7 +70,7 @@ called (Call o ∷ due) = Some (record { begins = o; rest = due })
 called (Show e ∷ due) = None
 called (Asking by pid must ∷ due) = None
 
--- the region that a message asks for
+-- the region whose areas a message asks for
 pub record Region : Type 0 where
   pub pid : Pid
   pub region : RegionNo
@@ -79,18 +79,14 @@ abbrev pub region_asked : Body → Option Region
 region_asked (GetAreas pid region) = Some (record { pid = pid; region = region })
 region_asked other = None
 
+-- the owner of a region of the process is asked
 abbrev pub asked_owner : Track → Place → Pid → Region → List Mark → Option HomeEntry → Option Begin
 asked_owner t by pid r due None = None
 asked_owner t by pid r due (Some e) = if r.pid.0 == pid.0 then Some (record { begins = order by (AsksAreas r.pid r.region e.owner); rest = due }) else None
 
--- whose owner is known
-abbrev pub entry_of : List HomeEntry → ℕ → ℕ → Option HomeEntry
-entry_of [] pid region = None
-entry_of (e ∷ homes) pid region = if e.pid.0 == pid && e.region.0 == region then Some e else entry_of homes pid region
-
 abbrev pub asking : Track → Place → Pid → List Mark → Option Region → List Mark → Option Begin
 asking t by pid due None settled = called settled
-asking t by pid due (Some r) settled = asked_owner t by pid r due (entry_of t.owners r.pid.0 r.region.0)
+asking t by pid due (Some r) settled = asked_owner t by pid r due (find home_key (key_at r.pid.0 r.region.0) t.owners)
 
 -- Where nothing is open: an asking where the head allows it, the mark stays then; else what is called for.
 abbrev pub begun : Track → Body → List Mark → Option Begin
