@@ -27,9 +27,10 @@ pub record Same (t t' : Track) : Type 0 where
   pub net : t'.net ≡ t.net
   pub delivered : t'.delivered ≡ t.delivered
   pub clock : t'.clock ≡ t.clock
+  pub due : t'.due ≡ t.due
 
 same_none : (t : Track) → Same t t
-same_none t = record { shape = refl; mems = refl; disk = refl; net = refl; delivered = refl; clock = refl }
+same_none t = record { shape = refl; mems = refl; disk = refl; net = refl; delivered = refl; clock = refl; due = refl }
 
 same_either : (t x y : Track) (b : Bool) → Same t x → Same t y → Same t (cond b x y)
 same_either t x y true p q = p
@@ -38,8 +39,8 @@ same_either t x y false p q = q
 -- DELIVERIES to an issuer
 
 reacts_same : (t : Track) (o : Open) (m : Message) (b : Option Body) → Same t (reacts t o m b)
-reacts_same t o m None = record { shape = refl; mems = refl; disk = refl; net = refl; delivered = refl; clock = refl }
-reacts_same t o m (Some b) = record { shape = refl; mems = refl; disk = refl; net = refl; delivered = refl; clock = refl }
+reacts_same t o m None = record { shape = refl; mems = refl; disk = refl; net = refl; delivered = refl; clock = refl; due = refl }
+reacts_same t o m (Some b) = record { shape = refl; mems = refl; disk = refl; net = refl; delivered = refl; clock = refl; due = refl }
 
 noted_same : (t : Track) (m : Message) (o : Option Open) → Same t (noted t m o)
 noted_same t m None = same_none t
@@ -47,24 +48,24 @@ noted_same t m (Some o) = same_either t _ _ _ (reacts_same t o m (reaction_of (p
 
 noted_by_move_same : (t : Track) (m : Message) (h : Healing) (o : Option Open) → Same t (noted_by_move t m h o)
 noted_by_move_same t m h None = noted_same t m t.current
-noted_by_move_same t m h (Some o) = same_either t _ _ _ (record { shape = refl; mems = refl; disk = refl; net = refl; delivered = refl; clock = refl }) (noted_same t m t.current)
+noted_by_move_same t m h (Some o) = same_either t _ _ _ (record { shape = refl; mems = refl; disk = refl; net = refl; delivered = refl; clock = refl; due = refl }) (noted_same t m t.current)
 
 noted_with_same : (t : Track) (m : Message) (h : Option Healing) → Same t (noted_with t m h)
 noted_with_same t m None = noted_same t m t.current
 noted_with_same t m (Some h) = noted_by_move_same t m h h.current
 
 pub issuer_same : (t : Track) (m : Message) → Same t (issuer_gets t m)
-issuer_same t m = same_either t _ _ (stops m.body) (record { shape = refl; mems = refl; disk = refl; net = refl; delivered = refl; clock = refl }) (noted_with_same t m t.healing)
+issuer_same t m = same_either t _ _ (stops m.body) (record { shape = refl; mems = refl; disk = refl; net = refl; delivered = refl; clock = refl; due = refl }) (noted_with_same t m t.healing)
 
 -- COMPLETIONS
 
 finished_same : (t : Track) (o : Option Open) → Same t (finished t o)
 finished_same t None = same_none t
-finished_same t (Some o) = record { shape = refl; mems = refl; disk = refl; net = refl; delivered = refl; clock = refl }
+finished_same t (Some o) = record { shape = refl; mems = refl; disk = refl; net = refl; delivered = refl; clock = refl; due = refl }
 
 move_finished_same : (t : Track) (h : Healing) (o : Open) (moves : List Move) → Same t (move_finished t h o moves)
-move_finished_same t h o [] = record { shape = refl; mems = refl; disk = refl; net = refl; delivered = refl; clock = refl }
-move_finished_same t h o (move ∷ moves) = record { shape = refl; mems = refl; disk = refl; net = refl; delivered = refl; clock = refl }
+move_finished_same t h o [] = record { shape = refl; mems = refl; disk = refl; net = refl; delivered = refl; clock = refl; due = refl }
+move_finished_same t h o (move ∷ moves) = record { shape = refl; mems = refl; disk = refl; net = refl; delivered = refl; clock = refl; due = refl }
 
 beside_same : (t : Track) (number : ℕ) (h : Healing) (o : Option Open) → Same t (completed_beside t number h o)
 beside_same t number h None = finished_same t t.current
@@ -117,14 +118,19 @@ handles_clock : (t : Track) (number : ℕ) (m : Message) (s : Option Mem) → (m
 handles_clock t number m None = refl
 handles_clock t number m (Some s) = refl
 
+handles_due : (t : Track) (number : ℕ) (m : Message) (s : Option Mem) → (memory_handles t number m s).due ≡ t.due
+handles_due t number m None = refl
+handles_due t number m (Some s) = refl
+
 pub record Came (t t' : Track) : Type 0 where
   pub shape : t'.shape ≡ t.shape
   pub net : t'.net ≡ t.net
   pub delivered : t'.delivered ≡ t.delivered
   pub clock : t'.clock ≡ t.clock
+  pub due : t'.due ≡ t.due
 
 issuer_came : (t t' : Track) → Same t t' → Came t t'
-issuer_came t t' same = record { shape = same.shape; net = same.net; delivered = same.delivered; clock = same.clock }
+issuer_came t t' same = record { shape = same.shape; net = same.net; delivered = same.delivered; clock = same.clock; due = same.due }
 
 pub comes_came : (t : Track) (m : Message) (to : Place) → Came t (comes t m to)
 comes_came t m (Processor cpu) = issuer_came t _ (issuer_same t m)
@@ -133,8 +139,9 @@ comes_came t m (Memory number) = record {
   net = handles_net t number.0 m (slice_get t.mems number.0);
   delivered = handles_delivered t number.0 m (slice_get t.mems number.0);
   clock = handles_clock t number.0 m (slice_get t.mems number.0);
+  due = handles_due t number.0 m (slice_get t.mems number.0);
 }
-comes_came t m Storage = record { shape = refl; net = refl; delivered = refl; clock = refl }
+comes_came t m Storage = record { shape = refl; net = refl; delivered = refl; clock = refl; due = refl }
 comes_came t m Manager = issuer_came t _ (issuer_same t m)
 
 -- ALONG A LIST

@@ -5,3 +5,6 @@ pub mod Lists
 pub mod Flow
 pub mod Senders
 pub mod Moments
+pub mod Numbers
+pub mod Judging
+pub mod Shows

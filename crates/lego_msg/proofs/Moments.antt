@@ -61,7 +61,7 @@ done_one net (Some x) else_ n e = by (is_complete net x) refl e
 none_some : (n : ℕ) → None ≡ Some n → ⊥
 none_some n e = cc e
 
-due_from : (t : Track) (n : ℕ) → first_done t ≡ Some n → (o : Open) × IsOpen t o × (o.number ≡ n) × (is_complete t.net o ≡ true)
+pub due_from : (t : Track) (n : ℕ) → first_done t ≡ Some n → (o : Open) × IsOpen t o × (o.number ≡ n) × (is_complete t.net o ≡ true)
 due_from t n e =
     elim (done_one t.net (healing_move t.healing) (done_or t.net t.current None) n e) [
       | inl there ↦ (there.0, inl there.1, there.2, there.3)

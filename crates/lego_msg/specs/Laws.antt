@@ -14,11 +14,12 @@ use Rattle.lego_msg.specs.declared.event.Event.TheVariants.{Turn, Access, Fill, 
 use Rattle.lego_msg.specs.Places.{memory, same_place, lose}
 use Rattle.lego_msg.specs.State.{Mem, Disk, lost}
 use Rattle.lego_msg.specs.Table.{handled, stored}
-use Rattle.lego_msg.specs.Operations.{Operation, patch_of}
-use Rattle.lego_msg.specs.Marks.{Mark, is_turn_end}
+use Rattle.lego_msg.specs.Operations.{is_write}
+use Rattle.lego_msg.specs.Marks.{Mark, Call, Show, Asking, is_turn_end}
 use Rattle.lego_msg.specs.Track.{Open, Clock, Track, start, picked, taken_out, is_complete, healing_move, is_any_done, next_crash, is_crash_due, entries_below}
 use Rattle.lego_msg.specs.Run.{after, run}
 use Rattle.lego_msg.specs.Legal.{Legal, is_idle, next_due}
+use Rattle.lego_msg.specs.Judged.{is_complete_in}
 use Rattle.lego_msg.specs.Watching.{Shown}
 
 -- WHOLE LISTS
@@ -34,6 +35,33 @@ CutAndJoined = (t : Track) (es fs : List Event) →
 -- What was shown of a run of events and then of another was shown of both.
 abbrev pub ShownJoin : Type 0
 ShownJoin = (told told' told'' : Option (List Event)) (n n' n'' : ℕ) (es fs : List Event) → Shown told n told' n' es → Shown told' n' told'' n'' fs → Shown told n told'' n'' (es ++ fs)
+
+-- WHAT IS SHOWN
+
+-- the events of a list that marks show: turns, accesses, fills, drops and output
+abbrev pub seen : List Event → List Event
+seen [] = []
+seen (Turn number pid ∷ es) = Turn number pid ∷ seen es
+seen (Access cpu pid address kind bytes ∷ es) = Access cpu pid address kind bytes ∷ seen es
+seen (Fill pid address bytes ∷ es) = Fill pid address bytes ∷ seen es
+seen (Drop cpu pid line ∷ es) = Drop cpu pid line ∷ seen es
+seen (Send m ∷ es) = seen es
+seen (Deliver m ∷ es) = seen es
+seen (Crash number inc ∷ es) = seen es
+seen (Complete op ∷ es) = seen es
+seen (Out stream bytes ∷ es) = Out stream bytes ∷ seen es
+
+-- the events that marks show
+abbrev pub shows : List Mark → List Event
+shows [] = []
+shows (Call o ∷ due) = shows due
+shows (Show e ∷ due) = e ∷ shows due
+shows (Asking by pid must ∷ due) = shows due
+
+-- In a legal list turns, accesses, fills, drops and output are, in order, those that were due, up to those that are
+-- due still.
+abbrev pub ShownAsDue : Type 0
+ShownAsDue = (t : Track) (es : List Event) → Legal t es → seen es ++ shows (run t es).due ≡ shows t.due
 
 -- DELIVERIES
 
@@ -137,6 +165,33 @@ CompletionsAreDue = (t : Track) (es fs : List Event) (op : OpNo) → Legal t (es
 -- comes.
 abbrev pub CompletionsAreFirst : Type 0
 CompletionsAreFirst = (t : Track) (es fs : List Event) (e : Event) → Legal t (es ++ e ∷ fs) → (run t es).owed ≡ [] → is_any_done (run t es) ≡ true → (op : OpNo) × (e ≡ Complete op)
+
+-- whether no completion of an operation stands in a list
+abbrev pub is_other : ℕ → Event → Bool
+is_other number (Turn turn pid) = true
+is_other number (Access cpu pid address kind bytes) = true
+is_other number (Fill pid address bytes) = true
+is_other number (Drop cpu pid line) = true
+is_other number (Send m) = true
+is_other number (Deliver m) = true
+is_other number (Crash m inc) = true
+is_other number (Complete op) = not (op.0 == number)
+is_other number (Out stream bytes) = true
+
+abbrev pub is_uncompleted : ℕ → List Event → Bool
+is_uncompleted number [] = true
+is_uncompleted number (e ∷ es) = is_other number e && is_uncompleted number es
+
+-- From where an operation is open and has no answer yet, its completion stands only where the list itself says that
+-- each of its targets has answered since its last crash and no message of it is pending.
+abbrev pub CompletionsAreByTheList : Type 0
+CompletionsAreByTheList = (shape : Shape) (due : List Mark) (before es fs : List Event) (o : Open) (op : OpNo) →
+    Legal (start shape due) (before ++ (es ++ Complete op ∷ fs)) →
+    (run (start shape due) before).current ≡ Some o →
+    o.answers ≡ [] →
+    op.0 ≡ o.number →
+    is_uncompleted o.number es ≡ true →
+    is_complete_in o.number (is_write o.operation) o.targets es (pending_of shape.deliveries (before ++ es)) ≡ true
 
 -- CRASHES
 

@@ -120,6 +120,14 @@ patch_of (WritesBack patch owner) = Some patch
 patch_of (WritesFill patch owner) = Some patch
 patch_of other = None
 
+-- whether there is one, and so an operation writes
+abbrev pub has_patch : Option Patch → Bool
+has_patch None = false
+has_patch (Some patch) = true
+
+abbrev pub is_write : Operation → Bool
+is_write o = has_patch (patch_of o)
+
 -- THE PLAIN MAP: the areas of each region, the byte at each address, the files. Only the completion of an
 -- operation changes it.
 pub record Plain : Type 0 where

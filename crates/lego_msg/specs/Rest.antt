@@ -17,7 +17,7 @@ use Rattle.lego_msg.specs.Places.{home_of, secondary_of, cache_of, memory, same_
 use Rattle.lego_msg.specs.Maps.{Key, key_at, find, owner_of, areas_at, page_key, page_at, overlaid}
 use Rattle.lego_msg.specs.Files.{bytes_of, block_of, is_there}
 use Rattle.lego_msg.specs.State.{Mem, Waiter, Block}
-use Rattle.lego_msg.specs.Operations.{Operation, WritesBack, WritesFill, ReadsFile, WritesFile, CutsFile, Plain, effect, patch_of, asks_of, messages_of}
+use Rattle.lego_msg.specs.Operations.{Operation, WritesBack, WritesFill, ReadsFile, WritesFile, CutsFile, Plain, effect, patch_of, is_write, asks_of, messages_of}
 use Rattle.lego_msg.specs.Track.{Answer, Open, Healing, Track, memory_count, has_answered, healing_move}
 
 -- THE PARTS OF THE EQUATION
@@ -144,14 +144,10 @@ abbrev pub IsUp : Option ℕ → ℕ → Type 0
 IsUp None m = Unit {0}
 IsUp (Some c) m = c ≡ m → ⊥
 
--- whether the open operation writes a patch, and whether first messages of it are still to be sent
-abbrev pub is_write_of : Option Patch → Bool
-is_write_of None = false
-is_write_of (Some patch) = true
-
-abbrev pub is_write : Option Open → Bool
-is_write None = false
-is_write (Some o) = is_write_of (patch_of o.operation)
+-- whether the open operation writes a patch
+abbrev pub is_writing : Option Open → Bool
+is_writing None = false
+is_writing (Some o) = is_write o.operation
 
 -- Storage's answer speaks of its images as they are now where no target of the operation was lost since storage
 -- was asked last: no target is being healed, all first messages are sent, and none of them to storage is pending.
@@ -252,8 +248,8 @@ pub record SecondHolds (t : Track) (m : ℕ) (x : Mem) : Type 0 where
   pub log : AllByRecursion (λ (p : Patch). Owned t m p.pid.0 (p.vpn.0 / 512) × OldOrNew t (λ f. IsMapped f p.pid.0 p.vpn.0)) x.log
   pub homes : (pid region : ℕ) (o : MemId) → owner_of x.spare.homes pid region ≡ Some o → (home_of (memory_count t.shape) pid ≡ m) × (owner_of t.owners pid region ≡ Some o)
   pub told : HasAnswered t (memory x.id) → (pid region : ℕ) → Owned t m pid region → HasAreas x.spare.areas pid region (new_plain t)
-  pub written : is_write t.current ≡ true → HasAnswered t (memory x.id) → (pid vpn : ℕ) → Owned t m pid (vpn / 512) → HasPage (second_pages t x) pid vpn (new_plain t)
-  pub dropped : is_write t.current ≡ false → is_storage_true t ≡ true → HasAnswered t place.Storage → (pid vpn : ℕ) → Owned t m pid (vpn / 512) → HasPage (second_pages t x) pid vpn (new_plain t)
+  pub written : is_writing t.current ≡ true → HasAnswered t (memory x.id) → (pid vpn : ℕ) → Owned t m pid (vpn / 512) → HasPage (second_pages t x) pid vpn (new_plain t)
+  pub dropped : is_writing t.current ≡ false → is_storage_true t ≡ true → HasAnswered t place.Storage → (pid vpn : ℕ) → Owned t m pid (vpn / 512) → HasPage (second_pages t x) pid vpn (new_plain t)
 
 -- A memory and its secondary, both not lost: where no operation changes them, they agree on which pages are
 -- present.

@@ -1,4 +1,4 @@
-ghost use Rattle.lego_msg.specs.Laws.{CutAndJoined, ShownJoin, DeliveriesArePicked, SendsFollow, CompletionsAreDue, CompletionsAreFirst, CrashesStandAtTheirMoment, CrashesAreDue};
+ghost use Rattle.lego_msg.specs.Laws.{CutAndJoined, ShownJoin, DeliveriesArePicked, SendsFollow, CompletionsAreDue, CompletionsAreFirst, CompletionsAreByTheList, ShownAsDue, CrashesStandAtTheirMoment, CrashesAreDue};
 
 /// Legal lists may be cut anywhere and joined again.
 pub fn legal_lists_are_cut_and_joined()
@@ -38,4 +38,15 @@ pub fn crashes_stand_at_their_moment()
 /// At an entry's moment its crash does stand.
 pub fn crashes_are_due()
     ensures { CrashesAreDue }
+{}
+
+/// A completion stands only where the list itself says that each target has answered since its last crash and that
+/// no message of the operation is pending.
+pub fn completions_are_by_the_list()
+    ensures { CompletionsAreByTheList }
+{}
+
+/// What marks show comes in their order, and nothing else of its kind comes.
+pub fn shown_as_due()
+    ensures { ShownAsDue }
 {}
