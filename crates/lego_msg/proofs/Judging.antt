@@ -10,14 +10,14 @@ use Rattle.lego_msg.specs.declared.body.Body.TheVariants.{LogFull, Drained}
 use Rattle.lego_msg.specs.declared.message.Message.{Message}
 use Rattle.lego_msg.specs.declared.event.Event.{Event}
 use Rattle.lego_msg.specs.declared.event.Event.TheVariants.{Turn, Access, Fill, Drop, Send, Deliver, Crash, Complete, Out}
-use Rattle.lego_msg.specs.Places.{memory, same_place}
+use Rattle.lego_msg.specs.Places.{memory, same_place, is_issuer}
 use Rattle.lego_msg.specs.State.{Mem}
 use Rattle.lego_msg.specs.Healing.{Move}
 use Rattle.lego_msg.specs.Operations.{Operation, patch_of, has_patch, is_write}
 use Rattle.lego_msg.specs.Track.{Answer, Open, Healing, Track, start, healing_move, has_answered, all_answered, is_pending, is_complete, forget}
 use Rattle.lego_msg.specs.Run.{move_begins, sent, taken, memory_handles, stops, reaction, reaction_of, reacts, answered, noted, noted_by_move, noted_with, issuer_gets, comes, finished, sent_again, forgotten, move_finished, completed_beside, completed, crashed, after, run}
 use Rattle.lego_msg.specs.Legal.{first_done, MaySend, Legal}
-use Rattle.lego_msg.specs.Judged.{is_issuer, is_reaction, is_answer, answered_after, answered_along, all_answered_in, is_complete_in}
+use Rattle.lego_msg.specs.Judged.{is_reaction, is_answer, answered_after, answered_along, all_answered_in, is_complete_in}
 use Rattle.lego_msg.specs.Laws.{IsOpen, is_other, is_uncompleted, pending_of, CompletionsAreByTheList}
 use Rattle.lego_msg.proofs.Lists.{run-append, Legal-front, Legal-back, Legal-append}
 use Rattle.lego_msg.proofs.Flow.{net_along}

@@ -8,3 +8,4 @@ pub mod Moments
 pub mod Numbers
 pub mod Judging
 pub mod Shows
+pub mod Single

@@ -304,7 +304,7 @@ picked_length (Some m) = name_length m
 
 -- the list by itself is as it should be: these events may come where they come
 log_write_first : May (filling 20) (Send log_write)
-log_write_first = (refl, (refl, refl, refl))
+log_write_first = (refl, (refl, refl, refl, refl))
 
 oldest_first : May (filling 22) (Deliver log_write)
 oldest_first = record { owed = refl; waiting = refl; calm = refl; chosen = refl }

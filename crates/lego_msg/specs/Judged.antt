@@ -1,26 +1,18 @@
 -- What the list of events alone says of an operation, and of the delivery list.
 use Rattle.std.specs.Prelude.{ℕ, ◌==◌, Bool, true, false, not, ◌&&◌, ◌||◌, if◌then◌else◌, List, [], ◌∷◌, length, Option, Some, None}
 use Rattle.lego_msg.specs.declared.place.Place.{Place}
-use Rattle.lego_msg.specs.declared.place.Place.TheVariants.{Processor, Memory, Storage, Manager}
 use Rattle.lego_msg.specs.declared.body.Body.{Body}
 use Rattle.lego_msg.specs.declared.body.Body.TheVariants.{LogFull, Drained}
 use Rattle.lego_msg.specs.declared.message.Message.{Message}
 use Rattle.lego_msg.specs.declared.event.Event.{Event}
 use Rattle.lego_msg.specs.declared.event.Event.TheVariants.{Turn, Access, Fill, Drop, Send, Deliver, Crash, Complete, Out}
-use Rattle.lego_msg.specs.Places.{memory, same_place}
+use Rattle.lego_msg.specs.Places.{memory, same_place, is_issuer}
 use Rattle.lego_msg.specs.Track.{pick_of, is_pending}
 use Rattle.lego_msg.specs.Run.{stops}
 
 -- the place in the pending list that the delivery list picks for the delivery with a number
 abbrev pub place_picked : List ℕ → ℕ → ℕ → Option ℕ
 place_picked deliveries number pending = if length deliveries == 0 || pending == 0 then None else Some (pick_of deliveries number pending)
-
--- only processors and the manager issue operations
-abbrev pub is_issuer : Place → Bool
-is_issuer (Processor cpu) = true
-is_issuer (Memory number) = false
-is_issuer Storage = false
-is_issuer Manager = true
 
 -- in a write, a full log and a drained one aren't answers
 abbrev pub is_reaction : Bool → Body → Bool

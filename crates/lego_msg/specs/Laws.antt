@@ -1,5 +1,5 @@
 -- What a reader may ask of legal lists.
-use Rattle.std.specs.Prelude.{◌≡◌, ◌⊎◌, ℕ, ◌+◌, ◌%◌, ◌==◌, Bool, true, false, not, ◌&&◌, ◌||◌, if◌then◌else◌, List, [], ◌∷◌, ◌++◌, map, length, take, drop, Option, Some, None, slice_get}
+use Rattle.std.specs.Prelude.{◌≡◌, ◌⊎◌, ℕ, ◌+◌, ◌%◌, ◌==◌, Bool, true, false, not, ◌&&◌, ◌||◌, if◌then◌else◌, List, [], ◌∷◌, ◌++◌, map, length, take, drop, Option, Some, None, is_some, slice_get}
 use Rattle.lego_base.specs.declared.ids.MemId.{MemId}
 use Rattle.lego_base.specs.declared.ids.OpNo.{OpNo}
 use Rattle.lego_base.specs.declared.shape.Shape.{Shape}
@@ -17,8 +17,9 @@ use Rattle.lego_msg.specs.Table.{handled, stored}
 use Rattle.lego_msg.specs.Operations.{is_write}
 use Rattle.lego_msg.specs.Marks.{Mark, Call, Show, Asking, is_turn_end}
 use Rattle.lego_msg.specs.Track.{Open, Clock, Track, start, picked, taken_out, is_complete, healing_move, is_any_done, next_crash, is_crash_due, entries_below}
-use Rattle.lego_msg.specs.Run.{after, run}
-use Rattle.lego_msg.specs.Legal.{Legal, is_idle, next_due}
+use Rattle.lego_msg.specs.Run.{region_asked, run}
+use Rattle.lego_msg.specs.Legal.{May, Legal, is_idle, next_due}
+use Rattle.lego_msg.specs.Next.{next}
 use Rattle.lego_msg.specs.Judged.{is_complete_in}
 use Rattle.lego_msg.specs.Watching.{Shown}
 
@@ -237,3 +238,28 @@ CrashesStandAtTheirMoment = (shape : Shape) (due : List Mark) (es fs : List Even
 -- nothing else comes.
 abbrev pub CrashesAreDue : Type 0
 CrashesAreDue = (t : Track) (es fs : List Event) (e : Event) → Legal t (es ++ e ∷ fs) → (run t es).owed ≡ [] → is_any_done (run t es) ≡ false → is_crash_due (run t es) ≡ true → (c : MemId) × (inc : ℕ) × (e ≡ Crash c inc)
+
+-- ONE EVENT AT A TIME
+
+-- whether a message asks for areas at a place that allows it
+abbrev pub is_asking_at : Body → List Mark → Bool
+is_asking_at body [] = false
+is_asking_at body (Call o ∷ due) = false
+is_asking_at body (Show e ∷ due) = false
+is_asking_at body (Asking by pid must ∷ due) = is_some (region_asked body)
+
+abbrev pub is_asking : Track → Event → Bool
+is_asking t (Turn number pid) = false
+is_asking t (Access cpu pid address kind bytes) = false
+is_asking t (Fill pid address bytes) = false
+is_asking t (Drop cpu pid line) = false
+is_asking t (Send m) = is_asking_at m.body t.due
+is_asking t (Deliver m) = false
+is_asking t (Crash number inc) = false
+is_asking t (Complete op) = false
+is_asking t (Out stream bytes) = false
+
+-- Askings for areas aside, only one event may come at a time: the one that `next` says. So what is due, the delivery
+-- list and the crash list determine the whole list.
+abbrev pub OneMayCome : Type 0
+OneMayCome = (t : Track) (e : Event) → May t e → is_asking t e ≡ false → next t ≡ Some e

@@ -10,6 +10,7 @@ use Rattle.lego_msg.specs.declared.event.Kind.{Kind}
 use Rattle.lego_msg.specs.declared.event.Kind.TheVariants.{Load, Store, Fetch, CopyIn, CopyOut, Probe}
 use Rattle.lego_msg.specs.declared.event.Event.{Event}
 use Rattle.lego_msg.specs.declared.event.Event.TheVariants.{Turn, Access, Fill, Drop, Send, Deliver, Crash, Complete, Out}
+use Rattle.lego_msg.specs.Places.{is_issuer}
 use Rattle.lego_msg.specs.State.{Mem}
 use Rattle.lego_msg.specs.Operations.{Operation, Reads, WritesBack, WritesFill}
 use Rattle.lego_msg.specs.Healing.{Move}
@@ -94,14 +95,15 @@ FitsCaches caches by (WritesBack patch owner) = WritesLine caches by patch
 FitsCaches caches by (WritesFill patch owner) = caches.filled ≡ Some (record { pid = patch.pid.0; address = patch.vpn.0 * 4096 + patch.off; bytes = patch.bytes })
 FitsCaches caches by other = Unit {0}
 
--- an operation that is called for begins with its first message; one that stands after the last turn does so
--- once no crash of the turn is left
+-- An operation that is called for begins with its first message, which a processor or the manager sends; one that
+-- stands after the last turn does so once no crash of the turn is left.
 abbrev pub MayBegin : Track → Message → Option Begin → Type 0
 MayBegin t m None = ⊥
 MayBegin t m (Some b) =
     IsFirst m (opened t.shape t.next b.begins.by b.begins.operation).unsent
     × FitsCaches t.caches b.begins.by b.begins.operation
     × ((b.begins.late && is_crash_left t) ≡ false)
+    × (is_issuer b.begins.by ≡ true)
 
 abbrev pub MaySend : Track → Message → List Message → Option Healing → Option Open → Type 0
 MaySend t m (owed ∷ more) healing current = m ≡ owed

@@ -35,6 +35,13 @@ same_place (Memory a) other = false
 same_place Storage other = false
 same_place Manager other = false
 
+-- only processors and the manager issue operations
+abbrev pub is_issuer : Place → Bool
+is_issuer (Processor cpu) = true
+is_issuer (Memory number) = false
+is_issuer Storage = false
+is_issuer Manager = true
+
 -- whether a place is in a list
 abbrev pub is_among : Place → List Place → Bool
 is_among place [] = false

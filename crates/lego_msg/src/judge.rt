@@ -1,9 +1,9 @@
 ghost use Rattle.std.specs.Prelude.{◌≡◌, false};
 ghost use Rattle.lego_msg.specs.declared.place.Place.TheVariants.{Processor, Memory, Storage, Manager};
-ghost use Rattle.lego_msg.specs.Places.{same_place as is_same_place};
+ghost use Rattle.lego_msg.specs.Places.{same_place as is_same_place, is_issuer as is_issuing};
 ghost use Rattle.lego_msg.specs.Track.{is_pending as is_op_pending};
 ghost use Rattle.lego_msg.specs.Run.{stops as is_stop};
-ghost use Rattle.lego_msg.specs.Judged.{place_picked, is_issuer as is_issuing, is_reaction as is_reacting, is_answer as is_answering, answered_after, has_answered_in, all_answered_in, is_complete_in};
+ghost use Rattle.lego_msg.specs.Judged.{place_picked, is_reaction as is_reacting, is_answer as is_answering, answered_after, has_answered_in, all_answered_in, is_complete_in};
 
 use crate::body::Body;
 use crate::event::Event;

@@ -1,4 +1,4 @@
-ghost use Rattle.lego_msg.specs.Laws.{CutAndJoined, ShownJoin, DeliveriesArePicked, SendsFollow, CompletionsAreDue, CompletionsAreFirst, CompletionsAreByTheList, ShownAsDue, CrashesStandAtTheirMoment, CrashesAreDue};
+ghost use Rattle.lego_msg.specs.Laws.{CutAndJoined, ShownJoin, DeliveriesArePicked, SendsFollow, CompletionsAreDue, CompletionsAreFirst, CompletionsAreByTheList, ShownAsDue, OneMayCome, CrashesStandAtTheirMoment, CrashesAreDue};
 
 /// Legal lists may be cut anywhere and joined again.
 pub fn legal_lists_are_cut_and_joined()
@@ -49,4 +49,9 @@ pub fn completions_are_by_the_list()
 /// What marks show comes in their order, and nothing else of its kind comes.
 pub fn shown_as_due()
     ensures { ShownAsDue }
+{}
+
+/// Askings for areas aside, only one event may come at a time.
+pub fn one_event_may_come()
+    ensures { OneMayCome }
 {}
