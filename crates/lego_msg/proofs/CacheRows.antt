@@ -1,7 +1,7 @@
 -- Worked touches of a cache, by computation.
-use Rattle.std.specs.Prelude.{◌≡◌, ℕ, Bool, true, false, List, [], ◌∷◌, Option, Some, None, refl}
+use Rattle.std.specs.Prelude.{◌≡◌, ℕ, true, false, List, [], ◌∷◌, Some, None, refl}
 use Rattle.lego_msg.specs.Maps.{Key}
-use Rattle.lego_msg.specs.CacheRule.{Past, Touched, Removed, Stored, Cleaned, Size, Tally, is_there, is_dirty, victim, tally}
+use Rattle.lego_msg.specs.CacheRule.{Past, Touched, Removed, Stored, Cleaned, Size, is_there, is_dirty, victim, tally}
 
 abbrev line : ℕ → Key
 line number = record { pid = 1; number = number }

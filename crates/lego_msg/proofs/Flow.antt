@@ -1,7 +1,5 @@
 -- What each event leaves as it is, and what it does to what is pending.
-use Rattle.std.proofs.Common.{◌≡◌, ℕ, slice_get, ◌+◌, Bool, true, false, cond, List, [], ◌∷◌, ◌++◌, Option, Some, None, refl, sym, ◌∙◌, ap, subst, arith}
-use Rattle.lego_base.specs.declared.ids.OpNo.{OpNo}
-use Rattle.lego_base.specs.declared.records.HomeEntry.{HomeEntry}
+use Rattle.std.proofs.Common.{◌≡◌, ℕ, slice_get, ◌+◌, Bool, true, false, cond, List, [], ◌∷◌, ◌++◌, Option, Some, None, refl, ◌∙◌, ap, subst, arith}
 use Rattle.lego_base.specs.declared.shape.Shape.{Shape}
 use Rattle.lego_msg.specs.declared.place.Place.{Place}
 use Rattle.lego_msg.specs.declared.place.Place.TheVariants.{Processor, Memory, Storage, Manager}
@@ -9,13 +7,12 @@ use Rattle.lego_msg.specs.declared.body.Body.{Body}
 use Rattle.lego_msg.specs.declared.message.Message.{Message}
 use Rattle.lego_msg.specs.declared.event.Event.{Event}
 use Rattle.lego_msg.specs.declared.event.Event.TheVariants.{Turn, Access, Fill, Drop, Send, Deliver, Crash, Complete, Out}
-use Rattle.lego_msg.specs.State.{Mem, Disk}
+use Rattle.lego_msg.specs.State.{Mem}
 use Rattle.lego_msg.specs.Healing.{Move}
 use Rattle.lego_msg.specs.Operations.{patch_of}
-use Rattle.lego_msg.specs.Marks.{Mark}
-use Rattle.lego_msg.specs.Track.{Open, Healing, Clock, Track, start, picked, taken_out}
-use Rattle.lego_msg.specs.Run.{Begin, begun, begins_with, move_begins, sent, taken, memory_handles, stops, reaction_of, reacts, noted, noted_by_move, noted_with, issuer_gets, comes, finished, move_finished, completed_beside, completed, crashed, after, run}
-use Rattle.lego_msg.specs.Legal.{MayBegin, IsMove, MaySend, May, Legal}
+use Rattle.lego_msg.specs.Track.{Open, Healing, Track, start, picked}
+use Rattle.lego_msg.specs.Run.{Begin, begun, begins_with, move_begins, sent, taken, memory_handles, stops, reaction_of, reacts, noted, noted_by_move, noted_with, issuer_gets, comes, finished, move_finished, completed_beside, completed, after, run}
+use Rattle.lego_msg.specs.Legal.{MayBegin, IsMove, MaySend, Legal}
 use Rattle.lego_msg.specs.Laws.{deliveries_in, pending_along, pending_of, DeliveriesArePicked}
 use Rattle.lego_msg.proofs.Lists.{Legal-front, Legal-back}
 

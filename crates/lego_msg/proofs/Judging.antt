@@ -1,7 +1,6 @@
 -- The answers of an open operation are those that the list of events has since each place's last crash.
-use Rattle.std.proofs.Common.{◌≡◌, ◌⊎◌, inl, inr, ℕ, ◌+◌, Bool, true, false, cond, not, ◌&&◌, ◌||◌, eqb, List, [], ◌∷◌, ◌++◌, Option, Some, None, is_some, refl, sym, ◌∙◌, ap, subst, slice_get}
+use Rattle.std.proofs.Common.{◌≡◌, inl, inr, ℕ, Bool, true, false, cond, not, ◌&&◌, ◌||◌, eqb, List, [], ◌∷◌, ◌++◌, Option, Some, None, is_some, refl, sym, ◌∙◌, ap, subst, slice_get}
 use Rattle.std.proofs.lemmas.Bool.{eqb-true, eq-eqb}
-use Rattle.lego_base.specs.declared.ids.OpNo.{OpNo}
 use Rattle.lego_base.specs.declared.records.Patch.{Patch}
 use Rattle.lego_msg.specs.declared.place.Place.{Place}
 use Rattle.lego_msg.specs.declared.place.Place.TheVariants.{Processor, Memory, Storage, Manager}
@@ -16,9 +15,9 @@ use Rattle.lego_msg.specs.Healing.{Move}
 use Rattle.lego_msg.specs.Operations.{Operation, patch_of, has_patch, is_write}
 use Rattle.lego_msg.specs.Track.{Answer, Open, Healing, Track, start, healing_move, has_answered, all_answered, is_pending, is_complete, forget}
 use Rattle.lego_msg.specs.Run.{move_begins, sent, taken, memory_handles, stops, reaction, reaction_of, reacts, answered, noted, noted_by_move, noted_with, issuer_gets, comes, finished, sent_again, forgotten, move_finished, completed_beside, completed, crashed, after, run}
-use Rattle.lego_msg.specs.Legal.{first_done, MaySend, Legal}
-use Rattle.lego_msg.specs.Judged.{is_reaction, is_answer, answered_after, answered_along, all_answered_in, is_complete_in}
-use Rattle.lego_msg.specs.Laws.{IsOpen, is_other, is_uncompleted, pending_of, CompletionsAreByTheList}
+use Rattle.lego_msg.specs.Legal.{first_done, Legal}
+use Rattle.lego_msg.specs.Judged.{is_reaction, answered_after, answered_along, all_answered_in, is_complete_in}
+use Rattle.lego_msg.specs.Laws.{is_other, is_uncompleted, pending_of, CompletionsAreByTheList}
 use Rattle.lego_msg.proofs.Lists.{run-append, Legal-front, Legal-back, Legal-append}
 use Rattle.lego_msg.proofs.Flow.{net_along}
 use Rattle.lego_msg.proofs.Senders.{same_some}

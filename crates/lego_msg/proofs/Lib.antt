@@ -9,3 +9,4 @@ pub mod Numbers
 pub mod Judging
 pub mod Shows
 pub mod Single
+pub mod Resting

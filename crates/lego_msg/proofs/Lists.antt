@@ -3,7 +3,7 @@ use Rattle.std.proofs.Common.{◌≡◌, List, [], ◌∷◌, ◌++◌, refl}
 use Rattle.lego_msg.specs.declared.event.Event.{Event}
 use Rattle.lego_msg.specs.Track.{Track}
 use Rattle.lego_msg.specs.Run.{after, run}
-use Rattle.lego_msg.specs.Legal.{May, Legal}
+use Rattle.lego_msg.specs.Legal.{Legal}
 use Rattle.lego_msg.specs.Laws.{CutAndJoined}
 
 pub run-append : (t : Track) (es fs : List Event) → run t (es ++ fs) ≡ run (run t es) fs

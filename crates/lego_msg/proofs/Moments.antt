@@ -1,5 +1,5 @@
 -- Where completions and crashes stand.
-use Rattle.std.proofs.Common.{◌≡◌, ◌⊎◌, inl, inr, ℕ, ◌+◌, Bool, true, false, cond, not, ◌&&◌, ◌||◌, eqb, List, [], ◌∷◌, ◌++◌, Option, Some, None, refl, sym, ◌∙◌, ap, subst, slice_get}
+use Rattle.std.proofs.Common.{◌≡◌, ◌⊎◌, inl, inr, ℕ, ◌+◌, Bool, true, false, cond, not, ◌&&◌, ◌||◌, eqb, List, [], ◌∷◌, Option, Some, None, refl, sym, ◌∙◌, subst, slice_get}
 use Rattle.std.proofs.lemmas.Bool.{eqb-true}
 use Rattle.lego_base.specs.declared.ids.MemId.{MemId}
 use Rattle.lego_base.specs.declared.ids.OpNo.{OpNo}
@@ -9,13 +9,13 @@ use Rattle.lego_msg.specs.declared.message.Message.{Message}
 use Rattle.lego_msg.specs.declared.event.Event.{Event}
 use Rattle.lego_msg.specs.declared.event.Event.TheVariants.{Turn, Access, Fill, Drop, Send, Deliver, Crash, Complete, Out}
 use Rattle.lego_msg.specs.State.{Mem}
-use Rattle.lego_msg.specs.Track.{Open, Healing, Clock, Track, start, is_complete, is_done, healing_move, is_any_done, next_crash, is_now, is_of_turn, is_crash_due, is_crash_left}
+use Rattle.lego_msg.specs.Track.{Open, Healing, Clock, Track, start, is_complete, is_done, healing_move, is_any_done, next_crash, is_now, is_of_turn, is_crash_due}
 use Rattle.lego_msg.specs.Run.{taken, after, run}
 use Rattle.lego_msg.specs.Marks.{is_turn_end}
 use Rattle.lego_msg.specs.Legal.{is_calm, done_or, first_done, is_idle, next_due, IsEntry, IsNextInc, MaySend, Legal}
-use Rattle.lego_msg.specs.Laws.{IsOpen, CompletionsAreDue, CompletionsAreFirst, clock_after, clock_along, no_clock, IsTurnOver, IsMoment, CrashesStandAtTheirMoment, CrashesAreDue, memory_along}
+use Rattle.lego_msg.specs.Laws.{IsOpen, CompletionsAreDue, CompletionsAreFirst, clock_along, IsTurnOver, IsMoment, CrashesStandAtTheirMoment, CrashesAreDue, memory_along}
 use Rattle.lego_msg.proofs.Lists.{Legal-front, Legal-back}
-use Rattle.lego_msg.proofs.Flow.{shape_along, comes_came, send_sent, completed_same}
+use Rattle.lego_msg.proofs.Flow.{comes_came, send_sent, completed_same}
 use Rattle.lego_msg.proofs.Senders.{mem_along, same_some}
 
 -- CALM: nothing else has to come first

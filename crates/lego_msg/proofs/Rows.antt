@@ -4,23 +4,22 @@ use Rattle.lego_base.specs.declared.shape.Shape.{Shape}
 use Rattle.lego_base.specs.declared.shape.CrashAt.{CrashAt}
 use Rattle.lego_base.specs.declared.ids.Pid.{Pid}
 use Rattle.lego_base.specs.declared.ids.MemId.{MemId}
-use Rattle.lego_base.specs.declared.ids.CpuId.{CpuId}
 use Rattle.lego_base.specs.declared.ids.RegionNo.{RegionNo}
 use Rattle.lego_base.specs.declared.records.Area.{Area}
 use Rattle.lego_base.specs.declared.records.Patch.{Patch}
 use Rattle.lego_base.specs.declared.records.HomeEntry.{HomeEntry}
 use Rattle.lego_msg.specs.declared.place.Place.{Place}
-use Rattle.lego_msg.specs.declared.place.Place.TheVariants.{Processor, Memory, Storage, Manager}
+use Rattle.lego_msg.specs.declared.place.Place.TheVariants.{Processor, Storage, Manager}
 use Rattle.lego_base.specs.declared.ids.OpNo.{OpNo}
 use Rattle.lego_msg.specs.declared.body.Body.TheVariants as body
 use Rattle.lego_msg.specs.declared.message.Message.{Message}
 use Rattle.lego_msg.specs.declared.event.Event.{Event}
 use Rattle.lego_msg.specs.declared.event.Event.TheVariants.{Turn, Access, Fill, Drop, Send, Deliver, Crash, Complete, Out}
-use Rattle.lego_msg.specs.declared.event.Kind.TheVariants.{Load, Store, Fetch}
+use Rattle.lego_msg.specs.declared.event.Kind.TheVariants.{Fetch}
 use Rattle.lego_msg.specs.Kinds.{kind_of}
 use Rattle.lego_msg.specs.Places.{memory}
-use Rattle.lego_msg.specs.Operations.{Operation, Finds, Reads, WritesBack, WritesFill, SetsHome, SetsAreas, Drains}
-use Rattle.lego_msg.specs.Marks.{Order, Mark, Call, Show, Asking, order}
+use Rattle.lego_msg.specs.Operations.{Finds, Reads, WritesFill, SetsHome, SetsAreas}
+use Rattle.lego_msg.specs.Marks.{Mark, Call, Show, order}
 use Rattle.lego_msg.specs.Track.{Track, start}
 use Rattle.lego_msg.specs.Run.{run}
 use Rattle.lego_msg.specs.Legal.{May}

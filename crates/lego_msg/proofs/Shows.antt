@@ -1,5 +1,5 @@
 -- What marks show comes in their order.
-use Rattle.std.proofs.Common.{◌≡◌, ℕ, Bool, true, false, cond, eqb, List, [], ◌∷◌, ◌++◌, Option, Some, None, refl, sym, ◌∙◌, ap, subst, drop}
+use Rattle.std.proofs.Common.{◌≡◌, Bool, true, false, cond, eqb, List, [], ◌∷◌, Option, Some, None, refl, sym, ◌∙◌, ap, subst, drop}
 use Rattle.lego_base.specs.declared.ids.Pid.{Pid}
 use Rattle.lego_base.specs.declared.records.HomeEntry.{HomeEntry}
 use Rattle.lego_msg.specs.declared.place.Place.{Place}
@@ -11,9 +11,9 @@ use Rattle.lego_msg.specs.Maps.{Key, key_at, find, home_key}
 use Rattle.lego_msg.specs.Healing.{Move}
 use Rattle.lego_msg.specs.Marks.{Mark, Call, Show, Asking, are_listed, past_askings}
 use Rattle.lego_msg.specs.Track.{Open, Healing, Track}
-use Rattle.lego_msg.specs.Run.{Begin, Region, called, region_asked, asked_owner, asking, begun, begins_with, move_begins, sent, taken, after, run}
-use Rattle.lego_msg.specs.Legal.{IsNext, MayBegin, MaySend, Legal}
-use Rattle.lego_msg.specs.Laws.{seen, shows, ShownAsDue}
+use Rattle.lego_msg.specs.Run.{Begin, Region, called, region_asked, asked_owner, asking, begun, begins_with, move_begins, sent, taken, after}
+use Rattle.lego_msg.specs.Legal.{IsNext, MayBegin, MaySend}
+use Rattle.lego_msg.specs.Laws.{shows, ShownAsDue}
 use Rattle.lego_msg.proofs.Flow.{comes_came, completed_same}
 
 shows_either : (b : Bool) (xs ys : List Mark) → shows (cond b xs ys) ≡ cond b (shows xs) (shows ys)

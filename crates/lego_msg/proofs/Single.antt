@@ -1,5 +1,5 @@
 -- Only one event may come at a time.
-use Rattle.std.proofs.Common.{◌≡◌, ◌⊎◌, inl, inr, ℕ, ◌+◌, Bool, true, false, cond, not, ◌&&◌, ◌||◌, eqb, List, [], ◌∷◌, ◌++◌, length, Option, Some, None, is_some, refl, sym, ◌∙◌, ap, subst, slice_get, arith}
+use Rattle.std.proofs.Common.{◌≡◌, ℕ, Bool, true, false, cond, not, ◌&&◌, ◌||◌, eqb, List, [], ◌∷◌, length, Option, Some, None, is_some, refl, sym, ◌∙◌, ap, subst, slice_get, arith}
 use Rattle.std.proofs.lemmas.Bool.{cond-true, cond-false, eqb-true}
 use Rattle.lego_base.specs.declared.ids.Pid.{Pid}
 use Rattle.lego_base.specs.declared.ids.MemId.{MemId}
@@ -13,11 +13,11 @@ use Rattle.lego_msg.specs.declared.event.Event.TheVariants.{Turn, Access, Fill, 
 use Rattle.lego_msg.specs.State.{Mem}
 use Rattle.lego_msg.specs.Healing.{Move}
 use Rattle.lego_msg.specs.Marks.{Mark, Call, Show, Asking, past_askings, is_turn, is_turn_end}
-use Rattle.lego_msg.specs.Track.{Open, Healing, Track, picked, is_complete, is_done, healing_move, is_any_done, next_crash, is_crash_due, is_crash_left, opened}
-use Rattle.lego_msg.specs.Run.{Begin, Region, region_asked, called, asking, begun, open_move}
-use Rattle.lego_msg.specs.Legal.{is_calm, Quiet, next_due, IsNext, MayShow, IsFirst, IsMove, MayBegin, MaySend, is_sent, is_waiting, done_or, first_done, is_idle, is_crash_moment, IsEntry, IsNextInc, May}
+use Rattle.lego_msg.specs.Track.{Open, Healing, Track, is_complete, is_done, healing_move, is_any_done, next_crash, is_crash_due, is_crash_left, opened}
+use Rattle.lego_msg.specs.Run.{Region, region_asked, called, asking, begun, open_move}
+use Rattle.lego_msg.specs.Legal.{is_calm, next_due, IsNext, MayShow, IsFirst, IsMove, MayBegin, MaySend, is_sent, is_waiting, done_or, first_done, is_idle, is_crash_moment, IsEntry, IsNextInc}
 use Rattle.lego_msg.specs.Next.{delivered_next, deliver_next, send_first, crash_of, crash_at, crash_next, move_next, due_next, open_next, crash_or_open, complete_next, owed_next, next}
-use Rattle.lego_msg.specs.Laws.{is_asking_at, is_asking, OneMayCome}
+use Rattle.lego_msg.specs.Laws.{is_asking_at, OneMayCome}
 use Rattle.lego_msg.proofs.Moments.{calm_goes, calm_done, calm_due, send_calm}
 
 or_left : (a b : Bool) → (a || b) ≡ false → a ≡ false

@@ -1,7 +1,7 @@
 -- The rule of the processors' caches, over the whole past of one processor. Time is the place in the list of
 -- what happened. There is no list of lines that is kept and moved; the bounded lists of the code are proved
 -- to be this.
-use Rattle.std.specs.Prelude.{ℕ, ◌+◌, ◌*◌, ◌/◌, ◌%◌, ◌==◌, nat_le, nat_lt, Bool, true, false, not, ◌&&◌, ◌||◌, if◌then◌else◌, List, [], ◌∷◌, ◌++◌, length, Option, Some, None}
+use Rattle.std.specs.Prelude.{ℕ, ◌+◌, ◌%◌, ◌==◌, nat_le, Bool, true, false, not, ◌&&◌, ◌||◌, if◌then◌else◌, List, [], ◌∷◌, ◌++◌, length, Option, Some, None}
 use Rattle.lego_msg.specs.Maps.{Key, same_key}
 
 -- what happens to a line, which is named by process and line number

@@ -3,7 +3,7 @@ use Rattle.std.specs.Prelude.{ℕ, ◌+◌, ◌-◌, ◌*◌, ◌/◌, ◌==◌,
 use Rattle.std.specs.Str.{bytes_eq}
 use Rattle.lego_base.specs.declared.ids.FileNo.{FileNo}
 use Rattle.lego_base.specs.declared.records.NameEntry.{NameEntry}
-use Rattle.lego_msg.specs.Maps.{zeros, laid_over}
+use Rattle.lego_msg.specs.Maps.{zeros}
 
 -- most files that there may be, those without a name counted
 abbrev pub FILES_MOST : ℕ

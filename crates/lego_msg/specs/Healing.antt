@@ -1,9 +1,8 @@
 -- Healing: what the manager does after the crash of a memory c, one message at a time, and each move's
 -- answer is there before the next move begins. Let s be the secondary of c, and q the memory whose secondary
 -- c is.
-use Rattle.std.specs.Prelude.{ℕ, List, [], ◌∷◌, ◌++◌, length, Option, Some, None}
+use Rattle.std.specs.Prelude.{ℕ, List, [], ◌∷◌, ◌++◌, Option, Some}
 use Rattle.lego_base.specs.declared.ids.Pid.{Pid}
-use Rattle.lego_base.specs.declared.ids.MemId.{MemId}
 use Rattle.lego_base.specs.declared.ids.RegionNo.{RegionNo}
 use Rattle.lego_base.specs.declared.records.HomeEntry.{HomeEntry}
 use Rattle.lego_base.specs.declared.records.SpaceAreas.{SpaceAreas}

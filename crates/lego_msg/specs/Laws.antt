@@ -1,5 +1,5 @@
 -- What a reader may ask of legal lists.
-use Rattle.std.specs.Prelude.{◌≡◌, ◌⊎◌, ℕ, ◌+◌, ◌%◌, ◌==◌, Bool, true, false, not, ◌&&◌, ◌||◌, if◌then◌else◌, List, [], ◌∷◌, ◌++◌, map, length, take, drop, Option, Some, None, is_some, slice_get}
+use Rattle.std.specs.Prelude.{◌≡◌, ◌⊎◌, ℕ, ◌+◌, ◌==◌, Bool, true, false, not, ◌&&◌, if◌then◌else◌, List, [], ◌∷◌, ◌++◌, Option, Some, None, is_some, slice_get}
 use Rattle.lego_base.specs.declared.ids.MemId.{MemId}
 use Rattle.lego_base.specs.declared.ids.OpNo.{OpNo}
 use Rattle.lego_base.specs.declared.shape.Shape.{Shape}
@@ -7,11 +7,10 @@ use Rattle.lego_base.specs.declared.shape.CrashAt.{CrashAt}
 use Rattle.lego_msg.specs.declared.place.Place.{Place}
 use Rattle.lego_msg.specs.declared.place.Place.TheVariants.{Processor, Memory, Storage, Manager}
 use Rattle.lego_msg.specs.declared.body.Body.{Body}
-use Rattle.lego_msg.specs.declared.body.Body.TheVariants.{LogFull, Drained}
 use Rattle.lego_msg.specs.declared.message.Message.{Message}
 use Rattle.lego_msg.specs.declared.event.Event.{Event}
 use Rattle.lego_msg.specs.declared.event.Event.TheVariants.{Turn, Access, Fill, Drop, Send, Deliver, Crash, Complete, Out}
-use Rattle.lego_msg.specs.Places.{memory, same_place, lose}
+use Rattle.lego_msg.specs.Places.{memory, lose}
 use Rattle.lego_msg.specs.State.{Mem, Disk, lost}
 use Rattle.lego_msg.specs.Table.{handled, stored}
 use Rattle.lego_msg.specs.Operations.{is_write}
@@ -21,6 +20,7 @@ use Rattle.lego_msg.specs.Run.{region_asked, run}
 use Rattle.lego_msg.specs.Legal.{May, Legal, is_idle, next_due}
 use Rattle.lego_msg.specs.Next.{next}
 use Rattle.lego_msg.specs.Judged.{is_complete_in}
+use Rattle.lego_msg.specs.Rest.{AtRest, Middle}
 use Rattle.lego_msg.specs.Watching.{Shown}
 
 -- WHOLE LISTS
@@ -263,3 +263,13 @@ is_asking t (Out stream bytes) = false
 -- list and the crash list determine the whole list.
 abbrev pub OneMayCome : Type 0
 OneMayCome = (t : Track) (e : Event) → May t e → is_asking t e ≡ false → next t ≡ Some e
+
+-- REST
+
+-- Before the first event all is at rest.
+abbrev pub StartRests : Type 0
+StartRests = (shape : Shape) (due : List Mark) → AtRest (start shape due)
+
+-- What is at rest meets the weaker relation, with no memory lost.
+abbrev pub RestIsMiddle : Type 0
+RestIsMiddle = (t : Track) → AtRest t → Middle None t

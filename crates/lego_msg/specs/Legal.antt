@@ -1,6 +1,6 @@
 -- Which event may come next, and which lists of events are legal. A list that is cut off is legal too: each of
 -- its events stands where it may stand, and what must follow the last one may be missing.
-use Rattle.std.specs.Prelude.{◌≡◌, ℕ, ◌+◌, ◌*◌, ◌/◌, ◌%◌, ◌==◌, nat_le, Bool, true, false, not, ◌&&◌, ◌||◌, if◌then◌else◌, List, [], ◌∷◌, ◌++◌, length, take, drop, Option, Some, None, is_some, slice_get}
+use Rattle.std.specs.Prelude.{◌≡◌, ℕ, ◌+◌, ◌*◌, ◌/◌, ◌%◌, ◌==◌, nat_le, Bool, true, false, not, ◌&&◌, ◌||◌, if◌then◌else◌, List, [], ◌∷◌, length, take, drop, Option, Some, None, is_some, slice_get}
 use Rattle.lego_base.specs.declared.records.Patch.{Patch}
 use Rattle.lego_base.specs.declared.shape.CrashAt.{CrashAt}
 use Rattle.lego_msg.specs.declared.place.Place.{Place}
@@ -14,9 +14,9 @@ use Rattle.lego_msg.specs.Places.{is_issuer}
 use Rattle.lego_msg.specs.State.{Mem}
 use Rattle.lego_msg.specs.Operations.{Operation, Reads, WritesBack, WritesFill}
 use Rattle.lego_msg.specs.Healing.{Move}
-use Rattle.lego_msg.specs.Marks.{Order, Mark, Call, Show, Asking, past_askings, is_turn_end}
-use Rattle.lego_msg.specs.Track.{Open, Healing, Filled, Caches, Track, picked, is_complete, is_any_done, healing_move, next_crash, is_crash_due, is_crash_left, opened}
-use Rattle.lego_msg.specs.Run.{Begin, begun, open_move, after, run}
+use Rattle.lego_msg.specs.Marks.{Mark, Call, Show, Asking, past_askings, is_turn_end}
+use Rattle.lego_msg.specs.Track.{Open, Healing, Caches, Track, picked, is_complete, is_any_done, healing_move, next_crash, is_crash_due, is_crash_left, opened}
+use Rattle.lego_msg.specs.Run.{Begin, begun, open_move, after}
 
 -- Nothing else must come first: no Complete, no crash; and the run wasn't stopped by a refusal.
 abbrev pub is_calm : Track → Bool

@@ -1,13 +1,13 @@
 -- The event that comes next: a list is determined by what is due, apart from the askings for areas, which the
 -- code may choose.
-use Rattle.std.specs.Prelude.{ℕ, ◌+◌, ◌==◌, zero, suc, Bool, true, false, ◌&&◌, if◌then◌else◌, List, [], ◌∷◌, Option, Some, None, slice_get}
+use Rattle.std.specs.Prelude.{ℕ, ◌+◌, zero, suc, ◌&&◌, if◌then◌else◌, List, [], ◌∷◌, Option, Some, None, slice_get}
 use Rattle.lego_base.specs.declared.shape.CrashAt.{CrashAt}
 use Rattle.lego_msg.specs.declared.message.Message.{Message}
 use Rattle.lego_msg.specs.declared.event.Event.{Event}
 use Rattle.lego_msg.specs.declared.event.Event.TheVariants.{Send, Deliver, Crash, Complete}
 use Rattle.lego_msg.specs.State.{Mem}
 use Rattle.lego_msg.specs.Healing.{Move}
-use Rattle.lego_msg.specs.Marks.{Order, Mark, Call, Show, Asking, is_turn}
+use Rattle.lego_msg.specs.Marks.{Mark, Call, Show, Asking, is_turn}
 use Rattle.lego_msg.specs.Track.{Open, Healing, Track, picked, is_complete, healing_move, next_crash, is_crash_due, is_crash_left, opened}
 use Rattle.lego_msg.specs.Run.{open_move, after}
 use Rattle.lego_msg.specs.Legal.{next_due}

@@ -9,7 +9,6 @@ use Rattle.lego_base.specs.declared.ids.Vpn.{Vpn}
 use Rattle.lego_base.specs.declared.ids.RegionNo.{RegionNo}
 use Rattle.lego_base.specs.declared.records.Area.{Area}
 use Rattle.lego_base.specs.declared.records.Patch.{Patch}
-use Rattle.lego_base.specs.declared.records.HomeEntry.{HomeEntry}
 use Rattle.lego_msg.specs.declared.place.Place.{Place}
 use Rattle.lego_msg.specs.declared.place.Place.TheVariants as place
 use Rattle.lego_msg.specs.declared.place.Role.TheVariants.{Main, Spare}
@@ -17,7 +16,7 @@ use Rattle.lego_msg.specs.declared.body.Body.{Body}
 use Rattle.lego_msg.specs.declared.body.Body.TheVariants as body
 use Rattle.lego_msg.specs.declared.message.Message.{Message}
 use Rattle.lego_msg.specs.Places.{home_of, secondary_of, cache_of, memory}
-use Rattle.lego_msg.specs.Files.{Files, File, file_written, file_cut, made, unnamed, freed}
+use Rattle.lego_msg.specs.Files.{Files, file_written, file_cut, made, unnamed, freed}
 
 pub data Operation : Type 0 where
   -- the owner of a region is asked for

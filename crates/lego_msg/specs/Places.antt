@@ -1,7 +1,5 @@
 -- Where things are kept. There are n memory components, numbered from 0.
 use Rattle.std.specs.Prelude.{ℕ, ◌+◌, ◌-◌, ◌%◌, ◌==◌, Bool, true, false, ◌||◌, List, [], ◌∷◌, if◌then◌else◌}
-use Rattle.lego_base.specs.declared.ids.MemId.{MemId}
-use Rattle.lego_base.specs.declared.ids.CpuId.{CpuId}
 use Rattle.lego_msg.specs.declared.place.Place.{Place}
 use Rattle.lego_msg.specs.declared.place.Place.TheVariants.{Processor, Memory, Storage, Manager}
 use Rattle.lego_msg.specs.declared.message.Message.{Message}

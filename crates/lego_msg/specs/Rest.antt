@@ -1,6 +1,6 @@
 -- What ties the components to the plain map: at rest, and the one weaker relation while an operation is open
 -- or a healing runs.
-use Rattle.std.specs.Prelude.{◌≡◌, ◌⊎◌, ℕ, ◌+◌, ◌*◌, ◌/◌, ◌%◌, ◌<◌, ◌≤◌, ◌==◌, Bool, true, false, not, ◌&&◌, ◌||◌, if◌then◌else◌, List, [], ◌∷◌, ◌++◌, length, take, Contains, Option, Some, None, IsSome, slice_get, slice_index}
+use Rattle.std.specs.Prelude.{◌≡◌, ◌⊎◌, ℕ, ◌+◌, ◌*◌, ◌/◌, ◌<◌, ◌≤◌, ◌==◌, Bool, true, false, not, ◌&&◌, ◌||◌, if◌then◌else◌, List, [], ◌∷◌, ◌++◌, length, take, Contains, Option, Some, None, IsSome, slice_get, slice_index}
 use Rattle.std.specs.List.{AllByRecursion}
 use Rattle.lego_base.specs.declared.ids.MemId.{MemId}
 use Rattle.lego_base.specs.declared.records.Area.{Area}
@@ -18,7 +18,7 @@ use Rattle.lego_msg.specs.Maps.{Key, key_at, find, owner_of, areas_at, page_key,
 use Rattle.lego_msg.specs.Files.{bytes_of, block_of, is_there}
 use Rattle.lego_msg.specs.State.{Mem, Waiter, Block}
 use Rattle.lego_msg.specs.Operations.{Operation, WritesBack, WritesFill, ReadsFile, WritesFile, CutsFile, Plain, effect, patch_of, is_write, asks_of, messages_of}
-use Rattle.lego_msg.specs.Track.{Answer, Open, Healing, Track, memory_count, has_answered, healing_move}
+use Rattle.lego_msg.specs.Track.{Open, Healing, Track, memory_count, has_answered, healing_move}
 
 -- THE PARTS OF THE EQUATION
 
@@ -269,7 +269,7 @@ pub record DiskHolds (t : Track) : Type 0 where
 pub record Middle (lost : Option ℕ) (t : Track) : Type 0 where
   pub pending : AllByRecursion (MayBePending t) (t.net ++ t.owed)
   pub memories : (m : ℕ) (s : Mem) → IsUp lost m → slice_get t.mems m ≡ Some s → MemHolds t m s
-  pub seconds : (m : ℕ) (x : Mem) → IsUp lost (secondary_of (memory_count t.shape) m) → slice_get t.mems (secondary_of (memory_count t.shape) m) ≡ Some x → SecondHolds t m x
+  pub seconds : (m : ℕ) (s x : Mem) → IsUp lost (secondary_of (memory_count t.shape) m) → slice_get t.mems m ≡ Some s → slice_get t.mems (secondary_of (memory_count t.shape) m) ≡ Some x → SecondHolds t m x
   pub pairs : (m : ℕ) (s x : Mem) → IsUp lost m → IsUp lost (secondary_of (memory_count t.shape) m) → slice_get t.mems m ≡ Some s → slice_get t.mems (secondary_of (memory_count t.shape) m) ≡ Some x → PairHolds t m s x
   pub disk : DiskHolds t
   pub unowned : (pid region : ℕ) → owner_of t.owners pid region ≡ None → t.plain.areas pid region ≡ []

@@ -1,5 +1,5 @@
 -- What an event makes of the track, and what a list of events makes of it.
-use Rattle.std.specs.Prelude.{ℕ, ◌+◌, ◌-◌, ◌*◌, ◌/◌, ◌%◌, ◌==◌, Bool, true, false, ◌&&◌, if◌then◌else◌, List, [], ◌∷◌, ◌++◌, length, drop, Option, Some, None, slice_get, slice_set}
+use Rattle.std.specs.Prelude.{ℕ, ◌+◌, ◌/◌, ◌%◌, ◌==◌, Bool, true, false, ◌&&◌, if◌then◌else◌, List, [], ◌∷◌, ◌++◌, drop, Option, Some, None, slice_get, slice_set}
 use Rattle.lego_base.specs.declared.ids.Pid.{Pid}
 use Rattle.lego_base.specs.declared.ids.RegionNo.{RegionNo}
 use Rattle.lego_base.specs.declared.records.HomeEntry.{HomeEntry}
@@ -16,13 +16,13 @@ use Rattle.lego_msg.specs.declared.event.Kind.TheVariants.{Load, Store, Fetch, C
 use Rattle.lego_msg.specs.declared.event.Event.{Event}
 use Rattle.lego_msg.specs.declared.event.Event.TheVariants.{Turn, Access, Fill, Drop, Send, Deliver, Crash, Complete, Out}
 use Rattle.lego_msg.specs.Places.{memory, lose}
-use Rattle.lego_msg.specs.Maps.{Key, key_at, find, is_of, is_at, put_all, without, those, home_key, owner_of, laid_over}
+use Rattle.lego_msg.specs.Maps.{Key, key_at, find, is_of, is_at, put_all, without, home_key, laid_over}
 use Rattle.lego_msg.specs.State.{Mem, lost}
 use Rattle.lego_msg.specs.Table.{handled, stored}
-use Rattle.lego_msg.specs.Operations.{Operation, Finds, Reads, WritesBack, WritesFill, SetsHome, SetsAreas, AsksAreas, Drains, Unmaps, Copies, Drops, ReadsFile, WritesFile, CutsFile, AsksSize, GetsName, MakesName, CutsName, ListsNames, FreesFile, Heals, patch_of, effect}
+use Rattle.lego_msg.specs.Operations.{Operation, Reads, SetsAreas, AsksAreas, Unmaps, Copies, Drops, Heals, patch_of, effect}
 use Rattle.lego_msg.specs.Healing.{Move, moves_of, ask_of}
 use Rattle.lego_msg.specs.Marks.{Order, Mark, Call, Show, Asking, order, past_askings}
-use Rattle.lego_msg.specs.Track.{Answer, Open, Healing, Clock, Filled, Caches, Track, memory_count, taken_out, forget, last_line, opened, again, entries_below}
+use Rattle.lego_msg.specs.Track.{Answer, Open, Healing, Clock, Caches, Track, memory_count, taken_out, forget, last_line, opened, again, entries_below}
 
 -- SHOWN EVENTS
 

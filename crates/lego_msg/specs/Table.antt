@@ -1,9 +1,8 @@
 -- The message table: what a component makes of a message, and what it sends, in order. One row a kind. A
 -- kind without a row for its receiver changes nothing and sends nothing. An answer goes to the message's
 -- sender with the same number.
-use Rattle.std.specs.Prelude.{ℕ, ◌+◌, ◌-◌, ◌*◌, ◌/◌, ◌%◌, ◌==◌, nat_le, nat_lt, Bool, true, false, ◌&&◌, ◌||◌, if◌then◌else◌, List, [], ◌∷◌, ◌++◌, map, length, take, drop, Option, Some, None}
+use Rattle.std.specs.Prelude.{ℕ, ◌+◌, ◌*◌, ◌/◌, ◌%◌, ◌==◌, nat_le, nat_lt, Bool, ◌&&◌, ◌||◌, if◌then◌else◌, List, [], ◌∷◌, ◌++◌, map, length, take, drop, Option, Some, None}
 use Rattle.lego_base.specs.declared.ids.Pid.{Pid}
-use Rattle.lego_base.specs.declared.ids.MemId.{MemId}
 use Rattle.lego_base.specs.declared.ids.FileNo.{FileNo}
 use Rattle.lego_base.specs.declared.ids.RegionNo.{RegionNo}
 use Rattle.lego_base.specs.declared.perms.Perms.{Perms}
@@ -22,8 +21,8 @@ use Rattle.lego_msg.specs.declared.body.Body.{Body}
 use Rattle.lego_msg.specs.declared.body.Body.TheVariants.{Find, Read, Write, LogWrite, Drain, SetHome, SetAreas, GetAreas, Unmap, CopySpace, DropSpace, FileRead, FileWrite, FileCut, PullMeta, PushMeta, PullPages, PushImages, ImageDrop, ImageCopy, ImageFree, PullImages, ResetImages, FileSize, NameGet, NameMake, NameCut, NameAll, FileFree, Backup, BackedUp, BlockGet, BlockIs, BlockPut, BlockCut, OwnerIs, Line, Refused, Wrote, LogFull, Drained, Done, AreasAre, FileBytes, SizeIs, NameIs, Names, Meta, Images}
 use Rattle.lego_msg.specs.declared.message.Message.{Message}
 use Rattle.lego_msg.specs.Places.{memory}
-use Rattle.lego_msg.specs.Maps.{Key, key_at, is_of, is_page_from, put, put_all, without, home_key, owner_of, areas_key, areas_at, with_areas, with_all_areas, copied_areas, page_key, page_at, patched, overlaid, pages_of, with_pages, copied_pages}
-use Rattle.lego_msg.specs.Files.{Files, File, bytes_of, block_of, is_room, file_written, file_cut, named, is_file_room, made, unnamed, freed}
+use Rattle.lego_msg.specs.Maps.{is_of, is_page_from, put, put_all, without, home_key, owner_of, areas_key, areas_at, with_areas, with_all_areas, copied_areas, page_key, page_at, patched, overlaid, pages_of, with_pages, copied_pages}
+use Rattle.lego_msg.specs.Files.{File, bytes_of, block_of, is_room, file_written, file_cut, named, is_file_room, made, unnamed, freed}
 use Rattle.lego_msg.specs.State.{Mem, Kept, Waiter, Block, Disk, kept, with_kept}
 
 -- MEMORIES

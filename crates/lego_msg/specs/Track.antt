@@ -1,5 +1,5 @@
 -- The track: all that a list of events determines. What an event makes of it is `after`, in Run.
-use Rattle.std.specs.Prelude.{ℕ, ◌+◌, ◌*◌, ◌/◌, ◌%◌, ◌==◌, nat_le, nat_lt, Bool, true, false, not, ◌&&◌, ◌||◌, if◌then◌else◌, List, [], ◌∷◌, ◌++◌, length, take, drop, Option, Some, None, slice_get, slice_index}
+use Rattle.std.specs.Prelude.{ℕ, ◌+◌, ◌%◌, ◌==◌, nat_lt, Bool, true, false, not, ◌&&◌, ◌||◌, if◌then◌else◌, List, [], ◌∷◌, ◌++◌, length, take, drop, Option, Some, None, slice_get, slice_index}
 use Rattle.lego_base.specs.declared.records.HomeEntry.{HomeEntry}
 use Rattle.lego_base.specs.declared.shape.Shape.{Shape}
 use Rattle.lego_base.specs.declared.shape.CrashAt.{CrashAt}
@@ -11,7 +11,7 @@ use Rattle.lego_msg.specs.Places.{same_place}
 use Rattle.lego_msg.specs.Maps.{Key}
 use Rattle.lego_msg.specs.Files.{no_files}
 use Rattle.lego_msg.specs.State.{Mem, Disk, empty_mem, empty_disk}
-use Rattle.lego_msg.specs.Operations.{Operation, Ask, asks_of, messages_of, targets_of, Plain, no_plain}
+use Rattle.lego_msg.specs.Operations.{Operation, asks_of, messages_of, targets_of, Plain, no_plain}
 use Rattle.lego_msg.specs.Healing.{Move}
 use Rattle.lego_msg.specs.Marks.{Mark}
 

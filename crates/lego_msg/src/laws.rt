@@ -1,4 +1,4 @@
-ghost use Rattle.lego_msg.specs.Laws.{CutAndJoined, ShownJoin, DeliveriesArePicked, SendsFollow, CompletionsAreDue, CompletionsAreFirst, CompletionsAreByTheList, ShownAsDue, OneMayCome, CrashesStandAtTheirMoment, CrashesAreDue};
+ghost use Rattle.lego_msg.specs.Laws.{CutAndJoined, ShownJoin, DeliveriesArePicked, SendsFollow, CompletionsAreDue, CompletionsAreFirst, CompletionsAreByTheList, ShownAsDue, OneMayCome, StartRests, RestIsMiddle, CrashesStandAtTheirMoment, CrashesAreDue};
 
 /// Legal lists may be cut anywhere and joined again.
 pub fn legal_lists_are_cut_and_joined()
@@ -54,4 +54,14 @@ pub fn shown_as_due()
 /// Askings for areas aside, only one event may come at a time.
 pub fn one_event_may_come()
     ensures { OneMayCome }
+{}
+
+/// Before the first event all is at rest.
+pub fn the_beginning_is_at_rest()
+    ensures { StartRests }
+{}
+
+/// Rest is a case of what holds while an operation is open or a memory is healed.
+pub fn rest_is_a_case_of_the_middle()
+    ensures { RestIsMiddle }
 {}

@@ -22,7 +22,8 @@ pub use judge::{has_answered, is_complete, is_pending, picked};
 pub use laws::{
     completions_are_by_the_list, completions_are_due, completions_are_first, crashes_are_due,
     crashes_stand_at_their_moment, deliveries_are_picked, legal_lists_are_cut_and_joined,
-    sends_follow_their_delivery, shown_as_due, one_event_may_come, shown_runs_are_joined,
+    one_event_may_come, rest_is_a_case_of_the_middle, sends_follow_their_delivery, shown_as_due,
+    shown_runs_are_joined, the_beginning_is_at_rest,
 };
 pub use list_watch::ListWatch;
 pub use message::Message;

@@ -86,20 +86,30 @@ fn from_m1(body: Body) -> Message {
     }
 }
 
-// Whether the copy of an event is written as the event is.
-fn copies_alike(alloc: Global, body: Body) -> Result<bool, Fail> {
-    let event = Event::Send(from_m1(body));
+// An event of a message, as it is written.
+fn written(alloc: Global, event: &Event) -> Result<String, Fail> {
+    Ok(format!(in alloc; "{event:?}")?)
+}
+
+// The copy of an event, as it is written.
+fn copied(alloc: Global, event: &Event) -> Result<String, Fail> {
     let copy = event.copy(alloc).map_err(|_| "memory")?;
-    let written = format!(in alloc; "{event:?}")?;
-    let again = format!(in alloc; "{copy:?}")?;
-    Ok(written.as_str() == again.as_str())
+    written(alloc, &copy)
+}
+
+// Whether the copy of a message's event is written as the event is.
+fn copies_alike(alloc: Global, body: Result<Body, NoMemory>) -> Result<bool, Fail> {
+    let body = body.map_err(|_| "memory")?;
+    let event = Event::Send(from_m1(body));
+    let whole = written(alloc, &event)?;
+    let again = copied(alloc, &event)?;
+    Ok(whole.as_str() == again.as_str())
 }
 
 #[test]
 fn copies_are_alike(rt: HostRuntime) -> Result<(), Fail> {
     let alloc = rt.alloc();
     for body in [batch(alloc), images(alloc), names(alloc), meta(alloc)] {
-        let body = body.map_err(|_| "memory")?;
         assert!(rt; copies_alike(alloc, body)?);
     }
     Ok(())
@@ -134,21 +144,36 @@ fn the_delivery_list_picks(rt: HostRuntime) {
     }
 }
 
-#[test]
-fn a_crash_forgets_answers(rt: HostRuntime) {
-    let answer = Event::Deliver(from_m1(Body::Wrote));
+// A memory's answer, its crash, and its answer again.
+fn answered_twice() -> [Event; 3] {
     let crash = Event::Crash {
         memory: MemId(1),
         inc: 1,
     };
-    let again = Event::Deliver(from_m1(Body::Wrote));
-    let events = [answer, crash, again];
+    [
+        Event::Deliver(from_m1(Body::Wrote)),
+        crash,
+        Event::Deliver(from_m1(Body::Wrote)),
+    ]
+}
+
+#[test]
+fn a_crash_forgets_answers(rt: HostRuntime) {
+    let events = answered_twice();
     for (count, answered) in [(0, false), (1, true), (2, false), (3, true)] {
         let (shown, _) = events.as_slice().split_at(count);
         assert_eq!(rt; has_answered(OpNo(3), true, M1, shown), answered);
-        assert_eq!(rt;
-            is_complete(OpNo(3), true, [M1].as_slice(), shown, [].as_slice()),
-            answered
-        );
+    }
+}
+
+#[test]
+fn what_is_pending_keeps_an_operation_open(rt: HostRuntime) {
+    let events = answered_twice();
+    for (op, complete) in [(3, false), (4, true)] {
+        let mut message = from_m1(Body::Done);
+        message.op = OpNo(op);
+        let pending = [message];
+        let done = is_complete(OpNo(3), true, &[M1], events.as_slice(), pending.as_slice());
+        assert_eq!(rt; done, complete);
     }
 }
