@@ -10,3 +10,4 @@ pub mod Judging
 pub mod Shows
 pub mod Single
 pub mod Resting
+pub mod Coming

@@ -22,8 +22,9 @@ use Rattle.lego_msg.specs.Operations.{Finds, Reads, WritesFill, SetsHome, SetsAr
 use Rattle.lego_msg.specs.Marks.{Mark, Call, Show, order}
 use Rattle.lego_msg.specs.Track.{Track, start}
 use Rattle.lego_msg.specs.Run.{run}
-use Rattle.lego_msg.specs.Legal.{May}
+use Rattle.lego_msg.specs.Legal.{May, Legal}
 use Rattle.lego_msg.specs.Next.{next, played}
+use Rattle.lego_msg.proofs.Coming.{played-is-legal}
 
 -- a message in an event, as a trace has it
 data Brief : Type 0 where
@@ -375,3 +376,17 @@ fetch_without_line may = may.1
 -- an operation that isn't called for
 write_not_called_for : May (start three []) (Send write) → ⊥
 write_not_called_for may = may.1
+
+-- LEGAL: each event of these lists may come where it stands
+
+legal_fill : Legal (one_fill []) (played 60 (one_fill []))
+legal_fill = played-is-legal 60 (one_fill []) refl
+
+legal_full_log : Legal two_fills (played 90 two_fills)
+legal_full_log = played-is-legal 90 two_fills refl
+
+legal_healing : Legal (one_fill (crash_after 9 1)) (played 120 (one_fill (crash_after 9 1)))
+legal_healing = played-is-legal 120 (one_fill (crash_after 9 1)) refl
+
+legal_first_run : Legal (start three boot_marks) (played 77 (start three boot_marks))
+legal_first_run = played-is-legal 77 (start three boot_marks) refl

@@ -16,8 +16,8 @@ use Rattle.lego_msg.specs.Marks.{Mark, Call, Show, Asking, past_askings, is_turn
 use Rattle.lego_msg.specs.Track.{Open, Healing, Track, is_complete, is_done, healing_move, is_any_done, next_crash, is_crash_due, is_crash_left, opened}
 use Rattle.lego_msg.specs.Run.{Region, region_asked, called, asking, begun, open_move}
 use Rattle.lego_msg.specs.Legal.{is_calm, next_due, IsNext, MayShow, IsFirst, IsMove, MayBegin, MaySend, is_sent, is_waiting, done_or, first_done, is_idle, is_crash_moment, IsEntry, IsNextInc}
-use Rattle.lego_msg.specs.Next.{delivered_next, deliver_next, send_first, crash_of, crash_at, crash_next, move_next, due_next, open_next, crash_or_open, complete_next, owed_next, next}
-use Rattle.lego_msg.specs.Laws.{is_asking_at, OneMayCome}
+use Rattle.lego_msg.specs.Next.{is_asking_at, showable, delivered_next, deliver_next, send_first, crash_of, crash_at, crash_next, move_next, due_next, open_next, crash_or_open, complete_next, owed_next, next}
+use Rattle.lego_msg.specs.Laws.{OneMayCome}
 use Rattle.lego_msg.proofs.Moments.{calm_goes, calm_done, calm_due, send_calm}
 
 or_left : (a b : Bool) → (a || b) ≡ false → a ≡ false
@@ -48,17 +48,17 @@ next_calm t owed calm =
 
 -- SHOWN EVENTS
 
-due_shown : (t : Track) (due : List Mark) (e : Event) → IsNext e due → (is_turn e && is_crash_left t) ≡ false → due_next t due ≡ Some e
-due_shown t [] e next ends = absurd next
-due_shown t (Call o ∷ due) e next ends = absurd next
-due_shown t (Show x ∷ due) e next ends = cond-false (is_turn x && is_crash_left t) _ _ (ap (λ (e : Event). is_turn e && is_crash_left t) next ∙ ends) ∙ ap Some next
-due_shown t (Asking by pid must ∷ due) e next ends = absurd next
+due_shown : (t : Track) (due : List Mark) (e : Event) → IsNext e due → showable e ≡ Some e → (is_turn e && is_crash_left t) ≡ false → due_next t due ≡ Some e
+due_shown t [] e next shows ends = absurd next
+due_shown t (Call o ∷ due) e next shows ends = absurd next
+due_shown t (Show x ∷ due) e next shows ends = cond-false (is_turn x && is_crash_left t) _ _ (ap (λ (e : Event). is_turn e && is_crash_left t) next ∙ ends) ∙ ap showable next ∙ shows
+due_shown t (Asking by pid must ∷ due) e next shows ends = absurd next
 
-shown_next : (t : Track) (e : Event) → MayShow t e → (is_turn e && is_crash_left t) ≡ false → next t ≡ Some e
-shown_next t e may ends =
+shown_next : (t : Track) (e : Event) → MayShow t e → showable e ≡ Some e → (is_turn e && is_crash_left t) ≡ false → next t ≡ Some e
+shown_next t e may shows ends =
     next_calm t may.0.owed may.0.calm
     ∙ (λ i. open_next t (may.0.healed i) (may.0.closed i))
-    ∙ due_shown t (next_due t) e may.1 ends
+    ∙ due_shown t (next_due t) e may.1 shows ends
 
 -- SENDS
 
@@ -75,7 +75,7 @@ not_asked : (t : Track) (by : Place) (pid : Pid) (due settled : List Mark) (r : 
 not_asked t by pid due settled None e = refl
 not_asked t by pid due settled (Some r) e = cc e
 
-begun_called : (t : Track) (b : Body) (due : List Mark) → is_asking_at b due ≡ false → begun t b due ≡ called (past_askings t.asked due)
+pub begun_called : (t : Track) (b : Body) (due : List Mark) → is_asking_at b due ≡ false → begun t b due ≡ called (past_askings t.asked due)
 begun_called t b [] e = refl
 begun_called t b (Call o ∷ due) e = refl
 begun_called t b (Show x ∷ due) e = refl
@@ -107,7 +107,7 @@ all_sent t (m ∷ messages) e =
 
 move_waits : (t : Track) (h : Healing) (o : Option Open) (moves : List Move) → is_sent o ≡ true → move_next t h o moves ≡ deliver_next t
 move_waits t h None moves e = cc e
-move_waits t h (Some o) moves e = refl
+move_waits t h (Some o) moves e = cond-true (eqb (length o.unsent) 0) _ _ e
 
 waiting_next : (t : Track) (h : Option Healing) (o : Option Open) → is_waiting h o ≡ true → open_next t h o ≡ deliver_next t
 waiting_next t None None e = cc e
@@ -186,10 +186,10 @@ complete_next_is t op owed goes done =
     ∙ completes_as t.net (healing_move t.healing) (done_or t.net t.current None) _ op (completes_as t.net t.current None (crash_or_open t) op (no_number op (crash_or_open t))) done
 
 pub one-may-come : OneMayCome
-one-may-come t (Turn number pid) may none = shown_next t (Turn number pid) may.0 may.1
-one-may-come t (Access cpu pid address kind bytes) may none = shown_next t (Access cpu pid address kind bytes) may.0 refl
-one-may-come t (Fill pid address bytes) may none = shown_next t (Fill pid address bytes) may refl
-one-may-come t (Drop cpu pid line) may none = shown_next t (Drop cpu pid line) may.0 refl
+one-may-come t (Turn number pid) may none = shown_next t (Turn number pid) may.0 refl may.1
+one-may-come t (Access cpu pid address kind bytes) may none = shown_next t (Access cpu pid address kind bytes) may.0 refl refl
+one-may-come t (Fill pid address bytes) may none = shown_next t (Fill pid address bytes) may refl refl
+one-may-come t (Drop cpu pid line) may none = shown_next t (Drop cpu pid line) may.0 refl refl
 one-may-come t (Send m) may none = send_next t m t.owed refl may none
 one-may-come t (Deliver m) may none =
     next_calm t may.owed may.calm
@@ -201,4 +201,4 @@ one-may-come t (Crash number inc) may none =
     ∙ crash_or t may.moment
     ∙ crash_is t (next_crash t.shape t.clock) number inc may.entry may.raised
 one-may-come t (Complete op) may none = complete_next_is t op may.owed may.goes_on may.complete
-one-may-come t (Out stream bytes) may none = shown_next t (Out stream bytes) may refl
+one-may-come t (Out stream bytes) may none = shown_next t (Out stream bytes) may refl refl

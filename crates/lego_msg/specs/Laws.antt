@@ -1,12 +1,11 @@
 -- What a reader may ask of legal lists.
-use Rattle.std.specs.Prelude.{◌≡◌, ◌⊎◌, ℕ, ◌+◌, ◌==◌, Bool, true, false, not, ◌&&◌, if◌then◌else◌, List, [], ◌∷◌, ◌++◌, Option, Some, None, is_some, slice_get}
+use Rattle.std.specs.Prelude.{◌≡◌, ◌⊎◌, ℕ, ◌+◌, ◌==◌, Bool, true, false, not, ◌&&◌, if◌then◌else◌, List, [], ◌∷◌, ◌++◌, Option, Some, None, slice_get}
 use Rattle.lego_base.specs.declared.ids.MemId.{MemId}
 use Rattle.lego_base.specs.declared.ids.OpNo.{OpNo}
 use Rattle.lego_base.specs.declared.shape.Shape.{Shape}
 use Rattle.lego_base.specs.declared.shape.CrashAt.{CrashAt}
 use Rattle.lego_msg.specs.declared.place.Place.{Place}
 use Rattle.lego_msg.specs.declared.place.Place.TheVariants.{Processor, Memory, Storage, Manager}
-use Rattle.lego_msg.specs.declared.body.Body.{Body}
 use Rattle.lego_msg.specs.declared.message.Message.{Message}
 use Rattle.lego_msg.specs.declared.event.Event.{Event}
 use Rattle.lego_msg.specs.declared.event.Event.TheVariants.{Turn, Access, Fill, Drop, Send, Deliver, Crash, Complete, Out}
@@ -16,9 +15,9 @@ use Rattle.lego_msg.specs.Table.{handled, stored}
 use Rattle.lego_msg.specs.Operations.{is_write}
 use Rattle.lego_msg.specs.Marks.{Mark, Call, Show, Asking, is_turn_end}
 use Rattle.lego_msg.specs.Track.{Open, Clock, Track, start, picked, taken_out, is_complete, healing_move, is_any_done, next_crash, is_crash_due, entries_below}
-use Rattle.lego_msg.specs.Run.{region_asked, run}
+use Rattle.lego_msg.specs.Run.{run}
 use Rattle.lego_msg.specs.Legal.{May, Legal, is_idle, next_due}
-use Rattle.lego_msg.specs.Next.{next}
+use Rattle.lego_msg.specs.Next.{is_asking_at, fits, next, played, all_fit}
 use Rattle.lego_msg.specs.Judged.{is_complete_in}
 use Rattle.lego_msg.specs.Rest.{AtRest, Middle}
 use Rattle.lego_msg.specs.Watching.{Shown}
@@ -241,13 +240,7 @@ CrashesAreDue = (t : Track) (es fs : List Event) (e : Event) → Legal t (es ++ 
 
 -- ONE EVENT AT A TIME
 
--- whether a message asks for areas at a place that allows it
-abbrev pub is_asking_at : Body → List Mark → Bool
-is_asking_at body [] = false
-is_asking_at body (Call o ∷ due) = false
-is_asking_at body (Show e ∷ due) = false
-is_asking_at body (Asking by pid must ∷ due) = is_some (region_asked body)
-
+-- whether an event is an asking for areas at a place that allows it
 abbrev pub is_asking : Track → Event → Bool
 is_asking t (Turn number pid) = false
 is_asking t (Access cpu pid address kind bytes) = false
@@ -263,6 +256,14 @@ is_asking t (Out stream bytes) = false
 -- list and the crash list determine the whole list.
 abbrev pub OneMayCome : Type 0
 OneMayCome = (t : Track) (e : Event) → May t e → is_asking t e ≡ false → next t ≡ Some e
+
+-- And that one may come, where the caches hold what it needs.
+abbrev pub NextMayCome : Type 0
+NextMayCome = (t : Track) (e : Event) → next t ≡ Some e → fits t e ≡ true → May t e
+
+-- So a list that is made by `next` alone is legal where a test says so, which can be computed.
+abbrev pub PlayedIsLegal : Type 0
+PlayedIsLegal = (n : ℕ) (t : Track) → all_fit n t ≡ true → Legal t (played n t)
 
 -- REST
 

@@ -1,15 +1,24 @@
 -- The event that comes next: a list is determined by what is due, apart from the askings for areas, which the
 -- code may choose.
-use Rattle.std.specs.Prelude.{ℕ, ◌+◌, zero, suc, ◌&&◌, if◌then◌else◌, List, [], ◌∷◌, Option, Some, None, slice_get}
+use Rattle.std.specs.Prelude.{ℕ, ◌+◌, ◌*◌, ◌/◌, ◌%◌, ◌==◌, zero, suc, nat_le, Bool, true, false, not, ◌&&◌, if◌then◌else◌, List, [], ◌∷◌, length, take, drop, Option, Some, None, is_some, is_none, slice_get}
+use Rattle.std.specs.Str.{bytes_eq}
+use Rattle.lego_base.specs.declared.records.Patch.{Patch}
 use Rattle.lego_base.specs.declared.shape.CrashAt.{CrashAt}
+use Rattle.lego_msg.specs.declared.place.Place.{Place}
+use Rattle.lego_msg.specs.declared.place.Place.TheVariants.{Processor, Memory, Storage, Manager}
+use Rattle.lego_msg.specs.declared.body.Body.{Body}
 use Rattle.lego_msg.specs.declared.message.Message.{Message}
+use Rattle.lego_msg.specs.declared.event.Kind.{Kind}
+use Rattle.lego_msg.specs.declared.event.Kind.TheVariants.{Load, Store, Fetch, CopyIn, CopyOut, Probe}
 use Rattle.lego_msg.specs.declared.event.Event.{Event}
-use Rattle.lego_msg.specs.declared.event.Event.TheVariants.{Send, Deliver, Crash, Complete}
+use Rattle.lego_msg.specs.declared.event.Event.TheVariants.{Turn, Access, Fill, Drop, Send, Deliver, Crash, Complete, Out}
+use Rattle.lego_msg.specs.Places.{is_issuer}
 use Rattle.lego_msg.specs.State.{Mem}
+use Rattle.lego_msg.specs.Operations.{Operation, Reads, WritesBack, WritesFill}
 use Rattle.lego_msg.specs.Healing.{Move}
 use Rattle.lego_msg.specs.Marks.{Mark, Call, Show, Asking, is_turn}
-use Rattle.lego_msg.specs.Track.{Open, Healing, Track, picked, is_complete, healing_move, next_crash, is_crash_due, is_crash_left, opened}
-use Rattle.lego_msg.specs.Run.{open_move, after}
+use Rattle.lego_msg.specs.Track.{Open, Healing, Filled, Caches, Track, picked, is_complete, healing_move, next_crash, is_crash_due, is_crash_left, opened}
+use Rattle.lego_msg.specs.Run.{Begin, called, region_asked, open_move, after}
 use Rattle.lego_msg.specs.Legal.{next_due}
 
 abbrev pub delivered_next : Option Message → Option Event
@@ -37,14 +46,26 @@ crash_next t = crash_at t (next_crash t.shape t.clock)
 
 -- with a healing running: the next move, or a delivery for the one that is on its way
 abbrev pub move_next : Track → Healing → Option Open → List Move → Option Event
-move_next t h (Some o) moves = deliver_next t
+move_next t h (Some o) moves = if length o.unsent == 0 then deliver_next t else None
 move_next t h None [] = None
 move_next t h None (move ∷ moves) = send_first (open_move t move h.got).unsent None
+
+-- an event that a mark can show
+abbrev pub showable : Event → Option Event
+showable (Turn number pid) = Some (Turn number pid)
+showable (Access cpu pid address kind bytes) = Some (Access cpu pid address kind bytes)
+showable (Fill pid address bytes) = Some (Fill pid address bytes)
+showable (Drop cpu pid line) = Some (Drop cpu pid line)
+showable (Send m) = None
+showable (Deliver m) = None
+showable (Crash number inc) = None
+showable (Complete op) = None
+showable (Out stream bytes) = Some (Out stream bytes)
 
 -- with nothing open: what is due, a crash of the turn before the turn's end
 abbrev pub due_next : Track → List Mark → Option Event
 due_next t [] = if is_crash_left t then crash_next t else None
-due_next t (Show e ∷ due) = if is_turn e && is_crash_left t then crash_next t else Some e
+due_next t (Show e ∷ due) = if is_turn e && is_crash_left t then crash_next t else showable e
 due_next t (Call o ∷ due) = if o.late && is_crash_left t then crash_next t else send_first (opened t.shape t.next o.by o.operation).unsent None
 due_next t (Asking by pid must ∷ due) = None
 
@@ -69,6 +90,78 @@ owed_next t [] = if t.stopped then None else complete_next t.net (healing_move t
 abbrev pub next : Track → Option Event
 next t = owed_next t t.owed
 
+-- WHAT THE CACHES MUST HOLD for that event to be legal, as a test
+
+abbrev pub carries : Option (List ℕ) → ℕ → List ℕ → Bool
+carries None address bytes = false
+carries (Some line) address bytes = nat_le (address % 64 + length bytes) 64 && bytes_eq bytes (take (length bytes) (drop (address % 64) line))
+
+abbrev pub meets : Option (List ℕ) → ℕ → List ℕ → Bool
+meets None address bytes = false
+meets (Some line) address bytes = nat_le (address % 64 + length bytes) 64
+
+abbrev pub in_line : Option (List ℕ) → ℕ → Kind → List ℕ → Bool
+in_line line address Load bytes = carries line address bytes
+in_line line address Store bytes = meets line address bytes
+in_line line address Fetch bytes = carries line address bytes
+in_line line address CopyIn bytes = carries line address bytes
+in_line line address CopyOut bytes = meets line address bytes
+in_line line address Probe bytes = bytes_eq bytes []
+
+abbrev pub has_bytes : Option (List ℕ) → List ℕ → Bool
+has_bytes None bytes = false
+has_bytes (Some line) bytes = bytes_eq line bytes
+
+abbrev pub reads_absent : Caches → Place → ℕ → ℕ → Bool
+reads_absent caches (Processor cpu) pid line = is_none (caches.line cpu.0 pid line)
+reads_absent caches (Memory number) pid line = true
+reads_absent caches Storage pid line = true
+reads_absent caches Manager pid line = true
+
+abbrev pub writes_line : Caches → Place → Patch → Bool
+writes_line caches (Processor cpu) p = p.off % 64 == 0 && has_bytes (caches.line cpu.0 p.pid.0 (p.vpn.0 * 64 + p.off / 64)) p.bytes
+writes_line caches (Memory number) p = true
+writes_line caches Storage p = true
+writes_line caches Manager p = true
+
+abbrev pub writes_fill : Option Filled → Patch → Bool
+writes_fill None p = false
+writes_fill (Some f) p = f.pid == p.pid.0 && f.address == p.vpn.0 * 4096 + p.off && bytes_eq f.bytes p.bytes
+
+abbrev pub fits_caches : Caches → Place → Operation → Bool
+fits_caches caches by (Reads pid line owner) = reads_absent caches by pid.0 line.0
+fits_caches caches by (WritesBack patch owner) = writes_line caches by patch
+fits_caches caches by (WritesFill patch owner) = writes_fill caches.filled patch
+fits_caches caches by other = true
+
+-- whether a message asks for areas at a place that allows it
+abbrev pub is_asking_at : Body → List Mark → Bool
+is_asking_at body [] = false
+is_asking_at body (Call o ∷ due) = false
+is_asking_at body (Show e ∷ due) = false
+is_asking_at body (Asking by pid must ∷ due) = is_some (region_asked body)
+
+abbrev pub fits_begin : Caches → Option Begin → Bool
+fits_begin caches None = true
+fits_begin caches (Some b) = fits_caches caches b.begins.by b.begins.operation && is_issuer b.begins.by
+
+abbrev pub fits_send : Track → List Message → Option Healing → Option Open → Bool
+fits_send t (m ∷ owed) h o = true
+fits_send t [] (Some h) o = true
+fits_send t [] None (Some o) = true
+fits_send t [] None None = fits_begin t.caches (called (next_due t))
+
+abbrev pub fits : Track → Event → Bool
+fits t (Turn number pid) = true
+fits t (Access cpu pid address kind bytes) = in_line (t.caches.line cpu.0 pid.0 (address / 64)) address kind bytes
+fits t (Fill pid address bytes) = true
+fits t (Drop cpu pid line) = is_some (t.caches.line cpu.0 pid.0 line.0)
+fits t (Send m) = fits_send t t.owed t.healing t.current && not (is_asking_at m.body t.due)
+fits t (Deliver m) = true
+fits t (Crash number inc) = true
+fits t (Complete op) = true
+fits t (Out stream bytes) = true
+
 -- the next events, so many at most
 abbrev pub played_on : ℕ → Track → Option Event → (Track → List Event) → List Event
 played_on n t None more = []
@@ -77,3 +170,12 @@ played_on n t (Some e) more = e ∷ more (after t e)
 abbrev pub played : ℕ → Track → List Event
 played zero t = []
 played (suc n) t = played_on n t (next t) (λ t. played n t)
+
+-- whether each of them fits the caches
+abbrev pub all_fit_on : Track → Option Event → (Track → Bool) → Bool
+all_fit_on t None more = true
+all_fit_on t (Some e) more = fits t e && more (after t e)
+
+abbrev pub all_fit : ℕ → Track → Bool
+all_fit zero t = true
+all_fit (suc n) t = all_fit_on t (next t) (λ t. all_fit n t)

@@ -1,4 +1,4 @@
-ghost use Rattle.lego_msg.specs.Laws.{CutAndJoined, ShownJoin, DeliveriesArePicked, SendsFollow, CompletionsAreDue, CompletionsAreFirst, CompletionsAreByTheList, ShownAsDue, OneMayCome, StartRests, RestIsMiddle, CrashesStandAtTheirMoment, CrashesAreDue};
+ghost use Rattle.lego_msg.specs.Laws.{CutAndJoined, ShownJoin, DeliveriesArePicked, SendsFollow, CompletionsAreDue, CompletionsAreFirst, CompletionsAreByTheList, ShownAsDue, OneMayCome, NextMayCome, PlayedIsLegal, StartRests, RestIsMiddle, CrashesStandAtTheirMoment, CrashesAreDue};
 
 /// Legal lists may be cut anywhere and joined again.
 pub fn legal_lists_are_cut_and_joined()
@@ -28,6 +28,16 @@ pub fn completions_are_due()
 /// A completion stands at the first such point.
 pub fn completions_are_first()
     ensures { CompletionsAreFirst }
+{}
+
+/// The event that comes next may come, where the caches hold what it needs.
+pub fn the_next_event_may_come()
+    ensures { NextMayCome }
+{}
+
+/// A list of such events is legal where a test says so.
+pub fn played_lists_are_legal()
+    ensures { PlayedIsLegal }
 {}
 
 /// Each crash stands at its entry's moment.
