@@ -183,7 +183,7 @@ fits_of : (t : Track) (m : Message) → t.owed ≡ [] → t.healing ≡ None →
 fits_of t m owed healed closed fit =
     let first : fits_send t t.owed t.healing t.current ≡ true = first_is _ _ fit in (
       subst (λ (p : List Message × Option Healing × Option Open). fits_send t p.0 p.1 p.2 ≡ true) (λ i. (owed i, healed i, closed i)) first,
-      not_is (is_asking_at m.body t.due) (second_is (fits_send t t.owed t.healing t.current) _ fit)
+      not_is (is_asking_at m.body t.due) (second_is (fits_send t t.owed t.healing t.current) _ fit),
     )
 
 -- the first of some messages
@@ -199,6 +199,7 @@ module _ (t : Track) (e : Event) (owed : t.owed ≡ []) (goes : (not t.stopped &
     where
       idle : is_idle t.healing t.current ≡ true
       idle = λ i. is_idle (healed i) (closed i)
+
       by : (b : Bool) → (b || (is_crash_left t && is_idle t.healing t.current && is_turn_end (next_due t))) ≡ true
       by true = refl
       by false = λ i. left i && idle i && over i

@@ -11,3 +11,4 @@ pub mod Shows
 pub mod Single
 pub mod Resting
 pub mod Coming
+mod MoreRows

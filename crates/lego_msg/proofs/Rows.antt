@@ -27,7 +27,7 @@ use Rattle.lego_msg.specs.Next.{next, played}
 use Rattle.lego_msg.proofs.Coming.{played-is-legal}
 
 -- a message in an event, as a trace has it
-data Brief : Type 0 where
+pub data Brief : Type 0 where
   send : ℕ → Place → Place → List ℕ → Brief
   deliver : ℕ → Place → Place → List ℕ → Brief
   complete : ℕ → Brief
@@ -36,7 +36,7 @@ data Brief : Type 0 where
   access : ℕ → Brief
   other : Brief
 
-abbrev brief : Event → Brief
+abbrev pub brief : Event → Brief
 brief (Send m) = send m.op.0 m.from m.to (kind_of m.body)
 brief (Deliver m) = deliver m.op.0 m.from m.to (kind_of m.body)
 brief (Complete op) = complete op.0
@@ -47,23 +47,23 @@ brief (Fill pid address bytes) = other
 brief (Drop cpu pid line) = other
 brief (Out stream bytes) = other
 
-abbrev briefs : List Event → List Brief
+abbrev pub briefs : List Event → List Brief
 briefs [] = []
 briefs (e ∷ es) = brief e ∷ briefs es
 
-abbrev pid1 : Pid
+abbrev pub pid1 : Pid
 pid1 = record { 0 = 1 }
 
-abbrev cpu0 : Place
+abbrev pub cpu0 : Place
 cpu0 = Processor (record { 0 = 0 })
 
-abbrev mem : ℕ → MemId
+abbrev pub mem : ℕ → MemId
 mem n = record { 0 = n }
 
-abbrev region : ℕ → RegionNo
+abbrev pub region : ℕ → RegionNo
 region n = record { 0 = n }
 
-abbrev home : ℕ → ℕ → HomeEntry
+abbrev pub home : ℕ → ℕ → HomeEntry
 home r m = record { pid = pid1; region = region r; owner = mem m }
 
 -- THE FIRST RUN: three memories, and a program of one page of code, whose words are at 0x10078
@@ -82,7 +82,7 @@ three = record {
   crashes = [];
 }
 
-abbrev code_areas : List Area
+abbrev pub code_areas : List Area
 code_areas = record { first = record { 0 = 16 }; pages = 1; perms = record { 0 = 5 } } ∷ []
 
 abbrev stack_areas : List Area
@@ -143,7 +143,7 @@ first_run_bytes = refl
 
 -- TWO WRITES INTO A LOG OF ONE PATCH: two memories, the owner is memory 0
 
-abbrev two : List ℕ → List CrashAt → Shape
+abbrev pub two : List ℕ → List CrashAt → Shape
 two deliveries crashes = record {
   frames = 64 ∷ 64 ∷ [];
   log = 1;
@@ -160,14 +160,14 @@ two deliveries crashes = record {
 abbrev byte_patch : ℕ → Patch
 byte_patch byte = record { pid = pid1; vpn = record { 0 = 16 }; off = 0; bytes = byte ∷ [] }
 
-abbrev map_marks : List Mark → List Mark
+abbrev pub map_marks : List Mark → List Mark
 map_marks due =
     Show (Turn 0 (record { 0 = 0 }))
     ∷ Call (record (order Manager (SetsHome pid1 (region 0) (mem 0))) { owners = home 0 0 ∷ [] })
     ∷ Call (order Manager (SetsAreas pid1 (region 0) code_areas (mem 0)))
     ∷ due
 
-abbrev fill_marks : ℕ → List Mark → List Mark
+abbrev pub fill_marks : ℕ → List Mark → List Mark
 fill_marks byte due = Show (Fill pid1 0x10000 (byte ∷ [])) ∷ Call (order Manager (WritesFill (byte_patch byte) (mem 0))) ∷ due
 
 -- which of the pending messages 2519 picks: the newest of up to ten
@@ -206,10 +206,10 @@ full_log = refl
 
 -- A CRASH OF THE SECONDARY BETWEEN A LOGWRITE AND ITS ANSWER: after the ninth delivery, with what it sends
 
-abbrev crash_after : ℕ → ℕ → List CrashAt
+abbrev pub crash_after : ℕ → ℕ → List CrashAt
 crash_after deliveries m = record { turn = 0; after = deliveries; memory = mem m } ∷ []
 
-abbrev one_fill : List CrashAt → Track
+abbrev pub one_fill : List CrashAt → Track
 one_fill crashes = start (two (0 ∷ []) crashes) (map_marks (fill_marks 7 []))
 
 -- The batch and the answer are lost with the memory. The manager's moves follow, the owner's answer comes between

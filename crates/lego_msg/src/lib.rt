@@ -20,11 +20,11 @@ pub use count_watch::CountWatch;
 pub use event::{Event, Kind};
 pub use judge::{has_answered, is_complete, is_pending, picked};
 pub use laws::{
-    the_next_event_may_come, played_lists_are_legal,
     completions_are_by_the_list, completions_are_due, completions_are_first, crashes_are_due,
     crashes_stand_at_their_moment, deliveries_are_picked, legal_lists_are_cut_and_joined,
-    one_event_may_come, rest_is_a_case_of_the_middle, sends_follow_their_delivery, shown_as_due,
-    shown_runs_are_joined, the_beginning_is_at_rest,
+    one_event_may_come, played_lists_are_legal, rest_is_a_case_of_the_middle,
+    sends_follow_their_delivery, shown_as_due, shown_runs_are_joined, the_beginning_is_at_rest,
+    the_next_event_may_come,
 };
 pub use list_watch::ListWatch;
 pub use message::Message;
