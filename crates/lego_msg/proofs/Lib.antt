@@ -12,3 +12,5 @@ pub mod Single
 pub mod Resting
 pub mod Coming
 mod MoreRows
+pub mod Going
+pub mod Issuing

@@ -9,7 +9,7 @@ use Rattle.lego_msg.specs.declared.place.Place.TheVariants.{Processor, Memory, S
 use Rattle.lego_msg.specs.declared.message.Message.{Message}
 use Rattle.lego_msg.specs.declared.event.Event.{Event}
 use Rattle.lego_msg.specs.declared.event.Event.TheVariants.{Turn, Access, Fill, Drop, Send, Deliver, Crash, Complete, Out}
-use Rattle.lego_msg.specs.Places.{memory, lose}
+use Rattle.lego_msg.specs.Places.{memory, is_issuer, lose}
 use Rattle.lego_msg.specs.State.{Mem, Disk, lost}
 use Rattle.lego_msg.specs.Table.{handled, stored}
 use Rattle.lego_msg.specs.Operations.{is_write}
@@ -151,6 +151,11 @@ abbrev pub SendsFollow : Type 0
 SendsFollow = (shape : Shape) (due : List Mark) (es fs : List Event) (m : Message) → Legal (start shape due) (es ++ Deliver m ∷ fs) →
     ((c : _) (s : Mem) → m.to ≡ Memory c → slice_get (start shape due).mems c.0 ≡ Some s → BeginsWith (handled (memory_along c.0 s es) m).1 fs)
     × (m.to ≡ Storage → BeginsWith (stored (storage_along (start shape due).disk es) m).1 fs)
+
+-- Nothing else is sent by a memory or storage: what it sends is the first of what is owed, which only a delivery to it
+-- leaves.
+abbrev pub OthersSendWhatTheyOwe : Type 0
+OthersSendWhatTheyOwe = (shape : Shape) (due : List Mark) (es fs : List Event) (m : Message) → Legal (start shape due) (es ++ Send m ∷ fs) → is_issuer m.from ≡ false → (rest : List Message) × ((run (start shape due) es).owed ≡ m ∷ rest)
 
 -- COMPLETIONS
 

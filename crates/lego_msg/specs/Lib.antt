@@ -10,6 +10,7 @@ pub mod Track
 pub mod Run
 pub mod Legal
 pub mod CacheRule
+pub mod Form
 pub mod Rest
 pub mod Watching
 pub mod ListWatched
@@ -17,3 +18,4 @@ pub mod Kinds
 pub mod Next
 pub mod Laws
 pub mod Judged
+pub mod Went

@@ -16,6 +16,7 @@ use Rattle.lego_msg.specs.declared.message.Message.{Message}
 use Rattle.lego_msg.specs.Places.{home_of, secondary_of, cache_of, memory, same_place, is_among}
 use Rattle.lego_msg.specs.Maps.{Key, key_at, find, owner_of, areas_at, page_key, page_at, overlaid}
 use Rattle.lego_msg.specs.Files.{bytes_of, block_of, is_there}
+use Rattle.lego_msg.specs.Form.{IsRegionList}
 use Rattle.lego_msg.specs.State.{Mem, Waiter, Block}
 use Rattle.lego_msg.specs.Operations.{Operation, WritesBack, WritesFill, ReadsFile, WritesFile, CutsFile, Plain, effect, patch_of, is_write, asks_of, messages_of}
 use Rattle.lego_msg.specs.Track.{Open, Healing, Track, memory_count, has_answered, healing_move}
@@ -38,18 +39,6 @@ second_pages t x = overlaid x.log t.disk.images
 -- a page is mapped in a plain map
 abbrev pub IsMapped : Plain → ℕ → ℕ → Type 0
 IsMapped f pid vpn = IsSome (perms_of (f.areas pid (vpn / 512)) vpn)
-
--- the lists of areas name pages of their region alone, in rising runs that aren't one run with the next
-abbrev pub goes_on : Area → Area → Bool
-goes_on a b = a.first.0 + a.pages == b.first.0 && a.perms.0 == b.perms.0
-
-abbrev pub IsBefore : Area → List Area → Type 0
-IsBefore a [] = Unit {0}
-IsBefore a (b ∷ areas) = (a.first.0 + a.pages ≤ b.first.0) × (goes_on a b ≡ false)
-
-abbrev pub IsRegionList : ℕ → List Area → Type 0
-IsRegionList region [] = Unit {0}
-IsRegionList region (a ∷ areas) = (0 < a.pages) × (region * 512 ≤ a.first.0) × (a.first.0 + a.pages ≤ region * 512 + 512) × IsBefore a areas × IsRegionList region areas
 
 -- THE BACKGROUND: batches on their way to storage
 

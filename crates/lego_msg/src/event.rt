@@ -54,13 +54,17 @@ pub enum Event {
 /// For what an access was made.
 #[derive(Clone, Copy, Debug, PartialEq, Eq)]
 pub enum Kind {
+    /// A load of an instruction.
     Load,
+    /// A store of an instruction.
     Store,
+    /// An instruction's own bytes.
     Fetch,
     /// A system call's copy from the space.
     CopyIn,
     /// A system call's copy to the space.
     CopyOut,
+    /// A test of a line, without bytes.
     Probe,
 }
 

@@ -1,4 +1,4 @@
-ghost use Rattle.lego_msg.specs.Laws.{CutAndJoined, ShownJoin, DeliveriesArePicked, SendsFollow, CompletionsAreDue, CompletionsAreFirst, CompletionsAreByTheList, ShownAsDue, OneMayCome, NextMayCome, PlayedIsLegal, StartRests, RestIsMiddle, CrashesStandAtTheirMoment, CrashesAreDue};
+ghost use Rattle.lego_msg.specs.Laws.{CutAndJoined, ShownJoin, DeliveriesArePicked, SendsFollow, OthersSendWhatTheyOwe, CompletionsAreDue, CompletionsAreFirst, CompletionsAreByTheList, ShownAsDue, OneMayCome, NextMayCome, PlayedIsLegal, StartRests, RestIsMiddle, CrashesStandAtTheirMoment, CrashesAreDue};
 
 /// Legal lists may be cut anywhere and joined again.
 pub fn legal_lists_are_cut_and_joined()
@@ -18,6 +18,11 @@ pub fn deliveries_are_picked()
 /// What a memory or storage sends for a message stands directly after its delivery, and is what the table gives.
 pub fn sends_follow_their_delivery()
     ensures { SendsFollow }
+{}
+
+/// What a memory or storage sends is the first of what is owed.
+pub fn others_send_what_they_owe()
+    ensures { OthersSendWhatTheyOwe }
 {}
 
 /// A completion stands where its operation is complete.

@@ -1,4 +1,10 @@
-//! Messages, events and the watch that sees them; and, as definitions, what a split run may do.
+//! Messages between the components of the split run, the events that a run shows, and the watch that sees them; and,
+//! as definitions, which lists of events a split run may show.
+//!
+//! Contracts see messages and events as plain values, lists as lists. `specs/Table` is the message table,
+//! `specs/Track` what a list of events determines, `specs/Run` and `specs/Legal` how it goes on, `specs/Rest` what ties
+//! the components to the plain map, `specs/CacheRule` the caches' rule. The laws that a reader may ask for are stated
+//! at the functions of `laws`; docs/SPLIT.md explains all of it. `specs/Watching` has the watch's promise.
 #![tactic(auto)]
 
 mod body; // what messages say
@@ -22,9 +28,9 @@ pub use judge::{has_answered, is_complete, is_pending, picked};
 pub use laws::{
     completions_are_by_the_list, completions_are_due, completions_are_first, crashes_are_due,
     crashes_stand_at_their_moment, deliveries_are_picked, legal_lists_are_cut_and_joined,
-    one_event_may_come, played_lists_are_legal, rest_is_a_case_of_the_middle,
-    sends_follow_their_delivery, shown_as_due, shown_runs_are_joined, the_beginning_is_at_rest,
-    the_next_event_may_come,
+    one_event_may_come, others_send_what_they_owe, played_lists_are_legal,
+    rest_is_a_case_of_the_middle, sends_follow_their_delivery, shown_as_due, shown_runs_are_joined,
+    the_beginning_is_at_rest, the_next_event_may_come,
 };
 pub use list_watch::ListWatch;
 pub use message::Message;

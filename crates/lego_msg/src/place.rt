@@ -16,7 +16,9 @@ pub enum Place {
 /// For whom a memory keeps homes and areas: for itself, or for the memory whose secondary it is.
 #[derive(Clone, Copy, Debug, PartialEq, Eq)]
 pub enum Role {
+    /// For itself.
     Main,
+    /// For the memory whose secondary it is.
     Spare,
 }
 
