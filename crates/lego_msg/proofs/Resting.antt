@@ -101,6 +101,8 @@ rest-is-middle t rest =
           let r = rest.memories m s at in
           record {
             areas = λ pid region owned. inl (r.areas pid region owned);
+            others = r.others;
+            lists = r.lists;
             bytes = λ pid vpn owned. inl (r.bytes pid vpn owned);
             pages = λ pid vpn some. ((r.pages pid vpn some).0, inl (r.pages pid vpn some).1);
             homes = r.homes;
@@ -112,7 +114,13 @@ rest-is-middle t rest =
       seconds = λ m s x up at at'. second_holds t rest m s x (rest.memories m s at) (rest.pairs m s x at at');
       pairs = λ m s x up up' at at'.
           let r = rest.pairs m s x at at' in
-          record { pages = λ none. r.pages; homes = λ none. r.homes; areas = λ none. r.areas };
+          record {
+            pages = λ pid vpn none. r.pages pid vpn;
+            homes = λ pid region none. ap (λ homes. owner_of homes pid region) r.homes;
+            areas = λ pid region none. ap (λ lists. areas_at lists pid region) r.areas;
+            same_homes = λ none. r.homes;
+            same_areas = λ none. r.areas;
+          };
       disk = record {
         files = inl rest.disk.files;
         told = λ has. absurd (no_answer t Storage rest.closed has);

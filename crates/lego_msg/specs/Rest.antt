@@ -3,6 +3,7 @@
 use Rattle.std.specs.Prelude.{◌≡◌, ◌⊎◌, ℕ, ◌+◌, ◌*◌, ◌/◌, ◌<◌, ◌≤◌, ◌==◌, Bool, true, false, not, ◌&&◌, ◌||◌, if◌then◌else◌, List, [], ◌∷◌, ◌++◌, length, take, Contains, Option, Some, None, IsSome, slice_get, slice_index}
 use Rattle.std.specs.List.{AllByRecursion}
 use Rattle.lego_base.specs.declared.ids.MemId.{MemId}
+use Rattle.lego_base.specs.declared.ids.RegionNo.{RegionNo}
 use Rattle.lego_base.specs.declared.records.Area.{Area}
 use Rattle.lego_base.specs.declared.records.Patch.{Patch}
 use Rattle.lego_base.specs.declared.records.PageImage.{PageImage}
@@ -14,11 +15,11 @@ use Rattle.lego_msg.specs.declared.body.Body.{Body}
 use Rattle.lego_msg.specs.declared.body.Body.TheVariants as body
 use Rattle.lego_msg.specs.declared.message.Message.{Message}
 use Rattle.lego_msg.specs.Places.{home_of, secondary_of, cache_of, memory, same_place, is_among}
-use Rattle.lego_msg.specs.Maps.{Key, key_at, find, owner_of, areas_at, page_key, page_at, overlaid}
+use Rattle.lego_msg.specs.Maps.{Key, key_at, find, owner_of, areas_at, is_page_from, page_key, page_at, overlaid}
 use Rattle.lego_msg.specs.Files.{bytes_of, block_of, is_there}
 use Rattle.lego_msg.specs.Form.{IsRegionList}
 use Rattle.lego_msg.specs.State.{Mem, Waiter, Block}
-use Rattle.lego_msg.specs.Operations.{Operation, WritesBack, WritesFill, ReadsFile, WritesFile, CutsFile, Plain, effect, patch_of, is_write, asks_of, messages_of}
+use Rattle.lego_msg.specs.Operations.{Operation, WritesBack, WritesFill, ReadsFile, WritesFile, CutsFile, Plain, effect, patch_of, is_write, asks_of, messages_of, SetsHome, SetsAreas, Unmaps, Copies, Drops}
 use Rattle.lego_msg.specs.Track.{Open, Healing, Track, memory_count, has_answered, healing_move}
 
 -- THE PARTS OF THE EQUATION
@@ -220,6 +221,8 @@ HasAreas lists pid region f = areas_at lists pid region ≡ f.areas pid region
 -- the new once it has answered.
 pub record MemHolds (t : Track) (m : ℕ) (s : Mem) : Type 0 where
   pub areas : (pid region : ℕ) → Owned t m pid region → OldOrNew t (HasAreas s.main.areas pid region)
+  pub others : (pid region : ℕ) → (Owned t m pid region → ⊥) → areas_at s.main.areas pid region ≡ []
+  pub lists : (pid region : ℕ) → IsRegionList region (areas_at s.main.areas pid region)
   pub bytes : (pid vpn : ℕ) → Owned t m pid (vpn / 512) → OldOrNew t (HasPage s.pages pid vpn)
   pub pages : (pid vpn : ℕ) → IsSome (find page_key (key_at pid vpn) s.pages) → Owned t m pid (vpn / 512) × OldOrNew t (λ f. IsMapped f pid vpn)
   pub homes : (pid region : ℕ) (o : MemId) → owner_of s.main.homes pid region ≡ Some o → (home_of (memory_count t.shape) pid ≡ m) × (owner_of t.owners pid region ≡ Some o)
@@ -240,12 +243,43 @@ pub record SecondHolds (t : Track) (m : ℕ) (x : Mem) : Type 0 where
   pub written : is_writing t.current ≡ true → HasAnswered t (memory x.id) → (pid vpn : ℕ) → Owned t m pid (vpn / 512) → HasPage (second_pages t x) pid vpn (new_plain t)
   pub dropped : is_writing t.current ≡ false → is_storage_true t ≡ true → HasAnswered t place.Storage → (pid vpn : ℕ) → Owned t m pid (vpn / 512) → HasPage (second_pages t x) pid vpn (new_plain t)
 
--- A memory and its secondary, both not lost: where no operation changes them, they agree on which pages are
--- present.
+-- what the open operation names: a page, the entry of a region, or areas
+abbrev pub is_region_in : ℕ → List RegionNo → Bool
+is_region_in number [] = false
+is_region_in number (r ∷ regions) = r.0 == number || is_region_in number regions
+
+abbrev pub names_page : Operation → ℕ → ℕ → Bool
+names_page (WritesBack patch owner) pid vpn = patch.pid.0 == pid && patch.vpn.0 == vpn
+names_page (WritesFill patch owner) pid vpn = patch.pid.0 == pid && patch.vpn.0 == vpn
+names_page (Unmaps p region first pages areas owner) pid vpn = is_page_from p.0 first.0 pages (key_at pid vpn)
+names_page (Copies parent child regions owner) pid vpn = child.0 == pid && is_region_in (vpn / 512) regions
+names_page (Drops p) pid vpn = p.0 == pid
+names_page other pid vpn = false
+
+abbrev pub names_home : Operation → ℕ → ℕ → Bool
+names_home (SetsHome p r owner) pid region = p.0 == pid && r.0 == region
+names_home (Drops p) pid region = p.0 == pid
+names_home other pid region = false
+
+abbrev pub names_areas : Operation → ℕ → ℕ → Bool
+names_areas (SetsAreas p r areas owner) pid region = p.0 == pid && r.0 == region
+names_areas (Unmaps p r first pages areas owner) pid region = p.0 == pid && r.0 == region
+names_areas (Copies parent child regions owner) pid region = child.0 == pid && is_region_in region regions
+names_areas (Drops p) pid region = p.0 == pid
+names_areas other pid region = false
+
+abbrev pub is_named : (Operation → ℕ → ℕ → Bool) → Option Open → ℕ → ℕ → Bool
+is_named names None pid number = false
+is_named names (Some o) pid number = names o.operation pid number
+
+-- A memory and its secondary, both not lost: of what the open operation doesn't name they have the same pages
+-- present, with the same bytes, and the same entries and areas; and with nothing open the same lists.
 pub record PairHolds (t : Track) (m : ℕ) (s x : Mem) : Type 0 where
-  pub pages : t.current ≡ None → (pid vpn : ℕ) → Owned t m pid (vpn / 512) → find page_key (key_at pid vpn) s.pages ≡ find page_key (key_at pid vpn) (second_pages t x)
-  pub homes : t.current ≡ None → s.main.homes ≡ x.spare.homes
-  pub areas : t.current ≡ None → s.main.areas ≡ x.spare.areas
+  pub pages : (pid vpn : ℕ) → is_named names_page t.current pid vpn ≡ false → Owned t m pid (vpn / 512) → find page_key (key_at pid vpn) s.pages ≡ find page_key (key_at pid vpn) (second_pages t x)
+  pub homes : (pid region : ℕ) → is_named names_home t.current pid region ≡ false → owner_of s.main.homes pid region ≡ owner_of x.spare.homes pid region
+  pub areas : (pid region : ℕ) → is_named names_areas t.current pid region ≡ false → areas_at s.main.areas pid region ≡ areas_at x.spare.areas pid region
+  pub same_homes : t.current ≡ None → s.main.homes ≡ x.spare.homes
+  pub same_areas : t.current ≡ None → s.main.areas ≡ x.spare.areas
 
 -- the files are the old or the new, and the new once storage has answered
 pub record DiskHolds (t : Track) : Type 0 where
