@@ -29,24 +29,7 @@ clear:
     sb   x0, 0(t1)
     addi t1, t1, 1
     bltu t1, t2, clear
-    li   s2, 0                  # primes so far
-    li   t0, 2                  # the number at hand
-next_number:
-    add  t1, s0, t0
-    lbu  t2, 0(t1)
-    bnez t2, passed
-    addi s2, s2, 1
-    mul  t3, t0, t0             # smaller multiples were crossed out before
-    li   t4, 1
-next_multiple:
-    bgeu t3, s1, passed
-    add  t1, s0, t3
-    sb   t4, 0(t1)
-    add  t3, t3, t0
-    j    next_multiple
-passed:
-    addi t0, t0, 1
-    bltu t0, s1, next_number
+    .include "sieve_loop.inc"   # s2: the primes below s1
     addi s3, s3, -1
     bnez s3, again
     li   a0, 0
