@@ -18,27 +18,27 @@ no_space = record { areas = []; byte = λ address. 0 }
 abbrev pub has_page : Area → ℕ → Bool
 has_page area page = nat_le area.first.0 page && nat_lt page (area.first.0 + area.pages)
 
--- the permissions of a page, where an area has it
+-- the permissions of a page, if it is mapped
 abbrev pub perms_of : List Area → ℕ → Option Perms
 perms_of [] page = None
 perms_of (area ∷ areas) page = if has_page area page then Some area.perms else perms_of areas page
 
--- whether permissions are there and have this one: 1 to read, 2 to write, 4 to execute
+-- whether a page is mapped and has this permission: 1 to read, 2 to write, 4 to execute
 abbrev pub allows : Option Perms → ℕ → Bool
 allows None need = false
 allows (Some perms) need = perms.0 / need % 2 == 1
 
--- whether each of n bytes from an address is in a page that has this permission
+-- whether each of n bytes, starting at an address, is in a page that has this permission
 abbrev pub permits : Space → ℕ → ℕ → ℕ → Bool
 permits space need address zero = true
 permits space need address (suc n) = allows (perms_of space.areas (address / 4096)) need && permits space need (address + 1) n
 
--- n bytes from an address
+-- n bytes starting at an address
 abbrev pub bytes_at : Space → ℕ → ℕ → List ℕ
 bytes_at space address zero = []
 bytes_at space address (suc n) = space.byte address ∷ bytes_at space (address + 1) n
 
--- the space with these bytes from an address on
+-- the space with these bytes starting at an address
 abbrev pub with_bytes : Space → ℕ → List ℕ → Space
 with_bytes space address bytes = record space { byte = λ a. if nat_le address a && nat_lt a (address + length bytes) then slice_index bytes (a - address) else space.byte a }
 

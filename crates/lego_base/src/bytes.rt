@@ -1,14 +1,15 @@
+//! Lists of bytes.
+
 ghost use Rattle.std.specs.Prelude.{◌≡◌, ◌==◌, ◌≤◌, [], length, max, vec_capacity, IfOk};
 ghost use Rattle.lego_base.specs.declared.sizes.TheConstants.{LEAST_ROOM};
 
 use crate::sizes::LEAST_ROOM;
 use crate::stops::NoMemory;
-use std::alloc::Global;
+use std::alloc::{AllocError, Global};
 use std::marker::Model;
 
-/// A list of bytes that contracts see as the list itself. It has room for at least `LEAST_ROOM` bytes
-/// and for all bytes that it has, so it can be set to any list of such a length in the memory that it
-/// has.
+/// A list of bytes that contracts see as the list itself. It has room for at least `LEAST_ROOM` bytes,
+/// so it can be set to a list of that length, or of its own, in the memory that it has.
 #[derive(Debug, Drop)]
 pub struct Bytes {
     items: Vec<u8>,
@@ -38,9 +39,7 @@ impl Bytes {
     pub fn from_slice(alloc: Global, bytes: &[u8]) -> Result<Bytes, NoMemory>
         ensures { IfOk result (λ b. b ≡ bytes.now) }
     {
-        let mut items = Vec::with_capacity(alloc, bytes.len().max(LEAST_ROOM))?;
-        items.extend_from_slice(bytes)?;
-        Ok(Bytes { items })
+        Ok(copied(alloc, bytes)?)
     }
 
     /// The bytes of a vector. Takes memory only where the vector has room for fewer than `LEAST_ROOM`.
@@ -69,21 +68,21 @@ impl Bytes {
         self.items.as_slice()
     }
 
-    /// How many bytes there are.
+    /// The number of bytes.
     pub fn len(&self) -> usize
         ensures { result ≡ length self.now }
     {
         self.items.len()
     }
 
-    /// Whether there is no byte.
+    /// Whether the list is empty.
     pub fn is_empty(&self) -> bool
         ensures { result ≡ (length self.now == 0) }
     {
         self.items.is_empty()
     }
 
-    /// Makes this the list `bytes`. Takes no memory.
+    /// Sets the list to `bytes`. Takes no memory.
     pub fn set(&mut self, bytes: &[u8])
         requires { length bytes.now ≤ max LEAST_ROOM (length self.old) }
         ensures { self.new ≡ bytes.now }
@@ -91,15 +90,32 @@ impl Bytes {
         set_items(&mut self.items, bytes);
     }
 
-    /// A copy of this list.
-    pub fn copy(&self, alloc: Global) -> Result<Bytes, NoMemory>
+    /// A clone, as [`NoMemory`] has its error.
+    pub fn copy(&self, _alloc: Global) -> Result<Bytes, NoMemory>
         ensures { IfOk result (λ b. b ≡ self.now) }
     {
-        Bytes::from_slice(alloc, self.items.as_slice())
+        Ok(self.clone()?)
     }
 }
 
-// Makes the vector the list `bytes`, for which it has room.
+impl Clone for Bytes {
+    ghost is_clone = { λ bytes copy. copy ≡ bytes };
+
+    fn clone(&self) -> Result<Bytes, AllocError> {
+        copied(*self.items.allocator(), self.items.as_slice())
+    }
+}
+
+// A list of these bytes.
+fn copied(alloc: Global, bytes: &[u8]) -> Result<Bytes, AllocError>
+    ensures { IfOk result (λ b. b ≡ bytes.now) }
+{
+    let mut items = Vec::with_capacity(alloc, bytes.len().max(LEAST_ROOM))?;
+    items.extend_from_slice(bytes)?;
+    Ok(Bytes { items })
+}
+
+// Sets the vector, which has room, to the list `bytes`.
 fn set_items(items: &mut Vec<u8>, bytes: &[u8])
     requires { length bytes.now ≤ vec_capacity items.old }
     ensures items { items.new.items ≡ bytes.now }
@@ -108,6 +124,6 @@ fn set_items(items: &mut Vec<u8>, bytes: &[u8])
     items.clear();
     match items.extend_from_slice(bytes) {
         Ok(()) => {}
-        Err(_) => unreachable!(),
+        Err(_) => unreachable!(), // there is room
     }
 }

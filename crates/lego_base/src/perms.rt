@@ -1,3 +1,5 @@
+//! Permissions of a page.
+
 ghost use Rattle.std.specs.Prelude.{⊤, [], ◌∷◌, codes};
 
 use bitflags::{Flag, Flags, bitflag_items};

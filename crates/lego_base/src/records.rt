@@ -1,3 +1,5 @@
+//! Values that cross the boundaries of components.
+
 use crate::bytes::Bytes;
 use crate::ids::{FileNo, MemId, Pid, RegionNo, Vpn};
 use crate::perms::Perms;
@@ -15,7 +17,7 @@ pub struct Area {
 pub type AreaRuns = Seq<Area>;
 
 /// Bytes of one page that are to be written.
-#[derive(Debug, Drop)]
+#[derive(Clone, Debug, Drop)]
 pub struct Patch {
     pub pid: Pid,
     pub vpn: Vpn,
@@ -24,7 +26,7 @@ pub struct Patch {
 }
 
 /// A whole page.
-#[derive(Debug, Drop)]
+#[derive(Clone, Debug, Drop)]
 pub struct PageImage {
     pub pid: Pid,
     pub vpn: Vpn,
@@ -43,7 +45,7 @@ pub struct HomeEntry {
 }
 
 /// The areas of one region.
-#[derive(Debug, Drop)]
+#[derive(Clone, Debug, Drop)]
 pub struct SpaceAreas {
     pub pid: Pid,
     pub region: RegionNo,
@@ -51,7 +53,7 @@ pub struct SpaceAreas {
 }
 
 /// A name of a file.
-#[derive(Debug, Drop)]
+#[derive(Clone, Debug, Drop)]
 pub struct NameEntry {
     pub name: Bytes,
     pub file: FileNo,

@@ -1,3 +1,5 @@
+//! What a run leaves: how it ended, how its processes ended, and its files.
+
 use crate::bytes::Bytes;
 use crate::ids::Pid;
 
@@ -36,7 +38,7 @@ pub struct Counts {
 }
 
 /// A file as the archive has it.
-#[derive(Debug, Drop)]
+#[derive(Clone, Debug, Drop)]
 pub struct FileOut {
     pub name: Bytes,
     pub bytes: Bytes,

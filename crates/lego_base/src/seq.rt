@@ -1,7 +1,10 @@
+//! Lists of any items.
+
 ghost use Rattle.std.specs.Prelude.{◌≡◌, ◌==◌, [], ◌∷◌, ◌++◌, length, OnOk, OnErr};
+ghost use Rattle.std.specs.List.{AllZip};
 
 use crate::stops::NoMemory;
-use std::alloc::Global;
+use std::alloc::{AllocError, Global};
 use std::marker::Model;
 
 /// A list of items that contracts see as the list itself, whatever room it has in memory.
@@ -50,14 +53,14 @@ impl<T> Seq<T> {
         self.items.as_slice()
     }
 
-    /// How many items there are.
+    /// The number of items.
     pub fn len(&self) -> usize
         ensures { result ≡ length self.now }
     {
         self.items.len()
     }
 
-    /// Whether there is no item.
+    /// Whether the list is empty.
     pub fn is_empty(&self) -> bool
         ensures { result ≡ (length self.now == 0) }
     {
@@ -66,14 +69,23 @@ impl<T> Seq<T> {
 }
 
 impl<T: Drop> Seq<T> {
-    /// Adds an item at the end. For want of memory the list stays as it was, and the item is dropped.
+    /// Adds an item at the end. If memory runs out, the list is unchanged and the item is dropped.
     pub fn push(&mut self, item: T) -> Result<(), NoMemory>
         ensures ok { OnOk result (self.new ≡ self.old ++ item ∷ []) }
         ensures err { OnErr result (self.new ≡ self.old) }
     {
-        match self.items.push(item) {
-            Ok(()) => Ok(()),
-            Err(_) => Err(NoMemory),
-        }
+        self.items.push(item)?;
+        Ok(())
+    }
+}
+
+// The items of a clone are clones, one by one. So a clone is equal to the list where clones of its items are
+// equal to them, which `search` finds for every type of this crate.
+impl<T: Clone> Clone for Seq<T> {
+    ghost is_clone = { λ list copy. AllZip T.is_clone list copy × (((x y : T) → T.is_clone x y → y ≡ x) → copy ≡ list) };
+
+    fn clone(&self) -> Result<Seq<T>, AllocError> {
+        let items = Vec::from_clones(*self.items.allocator(), self.items.as_slice())?;
+        Ok(Seq { items })
     }
 }

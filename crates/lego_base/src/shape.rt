@@ -1,9 +1,11 @@
+//! The machine that a description asks for.
+
 use crate::ids::MemId;
 use crate::seq::Seq;
 
 /// The machine that a description asks for: its components, their sizes, and the fixed order of
 /// deliveries and crashes.
-#[derive(Debug, Drop)]
+#[derive(Clone, Debug, Drop)]
 pub struct Shape {
     pub frames: Seq<u32>, // pages, a number for each memory component: 2 to 8 numbers of 16 to 16384
     pub log: u32, // patches that a memory's log holds: 1 to 1024

@@ -1,7 +1,11 @@
+//! Why a call didn't go on, and how `?` hands on that memory ran out.
+
+ghost use Rattle.std.specs.Prelude.{◌≡◌};
+
 use crate::ids::MemId;
 use std::alloc::{AllocError, AllocFailed};
 
-/// Memory ran out.
+/// Memory of the host ran out.
 #[derive(Clone, Copy, Debug, PartialEq, Eq)]
 pub struct NoMemory;
 
@@ -28,6 +32,26 @@ pub enum Halt {
     NoMemory,
 }
 
+impl From<NoMemory> for Halt {
+    ghost use Rattle.lego_base.specs.declared.stops.Halt.TheVariants.{NoMemory as OutOfMemory};
+
+    ghost from_gives = { λ _ halt. halt ≡ OutOfMemory };
+
+    fn from(_error: NoMemory) -> Halt {
+        Halt::NoMemory
+    }
+}
+
+impl From<AllocError> for Halt {
+    ghost use Rattle.lego_base.specs.declared.stops.Halt.TheVariants.{NoMemory as OutOfMemory};
+
+    ghost from_gives = { λ _ halt. halt ≡ OutOfMemory };
+
+    fn from(_error: AllocError) -> Halt {
+        Halt::NoMemory
+    }
+}
+
 /// Why an access to guest memory gave nothing.
 #[derive(Clone, Copy, Debug, PartialEq, Eq)]
 pub enum MemStop {
@@ -35,6 +59,38 @@ pub enum MemStop {
     Segv,
     /// The machine halts.
     Halt(Halt),
+}
+
+impl From<Halt> for MemStop {
+    ghost use Rattle.lego_base.specs.declared.stops.MemStop.TheVariants.{Halt as Halts};
+
+    ghost from_gives = { λ halt stop. stop ≡ Halts halt };
+
+    fn from(halt: Halt) -> MemStop {
+        MemStop::Halt(halt)
+    }
+}
+
+impl From<NoMemory> for MemStop {
+    ghost use Rattle.lego_base.specs.declared.stops.Halt.TheVariants.{NoMemory as OutOfMemory};
+    ghost use Rattle.lego_base.specs.declared.stops.MemStop.TheVariants.{Halt as Halts};
+
+    ghost from_gives = { λ _ stop. stop ≡ Halts OutOfMemory };
+
+    fn from(_error: NoMemory) -> MemStop {
+        MemStop::Halt(Halt::NoMemory)
+    }
+}
+
+impl From<AllocError> for MemStop {
+    ghost use Rattle.lego_base.specs.declared.stops.Halt.TheVariants.{NoMemory as OutOfMemory};
+    ghost use Rattle.lego_base.specs.declared.stops.MemStop.TheVariants.{Halt as Halts};
+
+    ghost from_gives = { λ _ stop. stop ≡ Halts OutOfMemory };
+
+    fn from(_error: AllocError) -> MemStop {
+        MemStop::Halt(Halt::NoMemory)
+    }
 }
 
 /// Why a system call, a turn or a run didn't go on.
@@ -48,4 +104,36 @@ pub enum CallStop {
     ErrFault,
     /// The program made a call that isn't built yet.
     Unbuilt,
+}
+
+impl From<Halt> for CallStop {
+    ghost use Rattle.lego_base.specs.declared.stops.CallStop.TheVariants.{Halt as Halts};
+
+    ghost from_gives = { λ halt stop. stop ≡ Halts halt };
+
+    fn from(halt: Halt) -> CallStop {
+        CallStop::Halt(halt)
+    }
+}
+
+impl From<NoMemory> for CallStop {
+    ghost use Rattle.lego_base.specs.declared.stops.Halt.TheVariants.{NoMemory as OutOfMemory};
+    ghost use Rattle.lego_base.specs.declared.stops.CallStop.TheVariants.{Halt as Halts};
+
+    ghost from_gives = { λ _ stop. stop ≡ Halts OutOfMemory };
+
+    fn from(_error: NoMemory) -> CallStop {
+        CallStop::Halt(Halt::NoMemory)
+    }
+}
+
+impl From<AllocError> for CallStop {
+    ghost use Rattle.lego_base.specs.declared.stops.Halt.TheVariants.{NoMemory as OutOfMemory};
+    ghost use Rattle.lego_base.specs.declared.stops.CallStop.TheVariants.{Halt as Halts};
+
+    ghost from_gives = { λ _ stop. stop ≡ Halts OutOfMemory };
+
+    fn from(_error: AllocError) -> CallStop {
+        CallStop::Halt(Halt::NoMemory)
+    }
 }

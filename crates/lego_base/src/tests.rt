@@ -1,11 +1,13 @@
-use crate::{Bytes, Seq, Text};
+//! Each type once, on its happy path.
+
+use crate::{Bytes, CallStop, Halt, MemStop, NoMemory, Patch, Pid, Seq, Text, Vpn};
 use std::test::Fail;
 
 #[test]
 fn lists_hold_what_they_were_given(rt: HostRuntime) -> Result<(), Fail> {
     let alloc = rt.alloc();
     let mut bytes = Bytes::from_slice(alloc, b"ab".as_slice())?;
-    assert_eq!(rt; bytes.copy(alloc)?.as_slice(), b"ab".as_slice());
+    assert_eq!(rt; bytes.clone()?.as_slice(), b"ab".as_slice());
     bytes.set(b"c".as_slice());
     assert_eq!(rt; bytes.as_slice(), b"c".as_slice());
     assert_eq!(rt; bytes.len(), 1);
@@ -19,11 +21,11 @@ fn lists_hold_what_they_were_given(rt: HostRuntime) -> Result<(), Fail> {
     numbers.push(8)?;
     assert_eq!(rt; numbers.len(), 2);
     assert_eq!(rt;
-        Seq::from_vec(numbers.into_vec()).as_slice(),
+        Seq::from_vec(numbers.clone()?.into_vec()).as_slice(),
         [7, 8].as_slice()
     );
 
     let text = Text::from_str(alloc, "name")?;
-    assert_eq!(rt; text.copy(alloc)?.as_str(), "name");
+    assert_eq!(rt; text.clone()?.as_str(), "name");
     Ok(())
 }

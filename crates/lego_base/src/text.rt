@@ -1,7 +1,9 @@
+//! Text as a list of bytes.
+
 ghost use Rattle.std.specs.Prelude.{◌≡◌, IfOk};
 
 use crate::stops::NoMemory;
-use std::alloc::Global;
+use std::alloc::{AllocError, Global};
 use std::marker::Model;
 
 /// A text that contracts see as the list of its bytes.
@@ -19,7 +21,7 @@ impl Model for Text {
 }
 
 impl Text {
-    /// A copy of the text.
+    /// A text of these characters.
     pub fn from_str(alloc: Global, text: &str) -> Result<Text, NoMemory>
         ensures { IfOk result (λ t. t ≡ text.now) }
     {
@@ -27,17 +29,20 @@ impl Text {
         Ok(Text { text })
     }
 
-    /// The text.
+    /// The text as std has it.
     pub fn as_str(&self) -> &str
         ensures { result.now ≡ self.now }
     {
         self.text.as_str()
     }
+}
 
-    /// A copy of this text.
-    pub fn copy(&self, alloc: Global) -> Result<Text, NoMemory>
-        ensures { IfOk result (λ t. t ≡ self.now) }
-    {
-        Text::from_str(alloc, self.text.as_str())
+impl Clone for Text {
+    ghost is_clone = { λ text copy. copy ≡ text };
+
+    fn clone(&self) -> Result<Text, AllocError> {
+        Ok(Text {
+            text: self.text.clone()?,
+        })
     }
 }
