@@ -1,2 +1,5 @@
 pub mod Space
 pub mod Counts
+pub mod Pieces
+pub mod Keys
+pub mod Files

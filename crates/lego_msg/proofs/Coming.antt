@@ -1,30 +1,38 @@
 -- The event that `next` says may come, where the caches hold what it needs.
-use Rattle.std.proofs.Common.{◌≡◌, ◌⊎◌, inl, inr, ℕ, zero, suc, ◌+◌, ◌*◌, ◌/◌, ◌%◌, Bool, true, false, cond, not, ◌&&◌, ◌||◌, eqb, List, [], ◌∷◌, length, take, drop, Option, Some, None, is_none, refl, sym, ◌∙◌, ap, subst, slice_get}
-use Rattle.std.specs.Prelude.{nat_le}
-use Rattle.std.specs.Str.{bytes_eq}
+use Rattle.std.proofs.Common.{◌≡◌, ◌⊎◌, ◌+◌, ◌*◌, ◌/◌, ◌%◌, ◌&&◌, ◌||◌, [], ◌∷◌, ◌∙◌, ℕ, Bool, List, None, Option, Some, ap, bytes_eq, cond, drop, eqb, false, inl, inr, is_none, length, nat_le, not, refl, slice_get, subst, suc, sym, take, true, zero}
 use Rattle.std.proofs.lemmas.Bool.{eqb-true}
 use Rattle.std.proofs.lemmas.Slice.Eq.{bytes_eq-Decides}
+use Rattle.lego_base.specs.declared.ids.OpNo.{OpNo}
 use Rattle.lego_base.specs.declared.records.Patch.{Patch}
 use Rattle.lego_base.specs.declared.shape.CrashAt.{CrashAt}
-use Rattle.lego_msg.specs.declared.place.Place.{Place}
-use Rattle.lego_msg.specs.declared.place.Place.TheVariants.{Processor, Memory, Storage, Manager}
-use Rattle.lego_msg.specs.declared.message.Message.{Message}
-use Rattle.lego_msg.specs.declared.event.Kind.{Kind}
-use Rattle.lego_msg.specs.declared.event.Kind.TheVariants.{Load, Store, Fetch, CopyIn, CopyOut, Probe}
-use Rattle.lego_msg.specs.declared.event.Event.{Event}
-use Rattle.lego_msg.specs.declared.event.Event.TheVariants.{Turn, Access, Fill, Drop, Send, Deliver, Crash, Complete, Out}
-use Rattle.lego_msg.specs.Places.{is_issuer}
-use Rattle.lego_msg.specs.State.{Mem}
-use Rattle.lego_msg.specs.Operations.{Operation, Reads, WritesBack, WritesFill}
-use Rattle.lego_msg.specs.Healing.{Move}
-use Rattle.lego_msg.specs.Marks.{Order, Mark, Call, Show, Asking, is_turn, is_turn_end}
-use Rattle.lego_msg.specs.Track.{Open, Healing, Filled, Caches, Track, picked, is_complete, is_done, healing_move, is_any_done, next_crash, is_crash_due, is_crash_left, opened}
-use Rattle.lego_msg.specs.Run.{called, open_move, after}
-use Rattle.lego_msg.specs.Legal.{is_calm, Quiet, next_due, IsNext, Carries, Meets, InLine, IsFirst, IsMove, ReadsAbsent, WritesLine, FitsCaches, MayBegin, MaySend, is_sent, is_waiting, done_or, first_done, is_idle, is_crash_moment, IsEntry, IsNextInc, May, Legal}
-use Rattle.lego_msg.specs.Next.{delivered_next, deliver_next, send_first, crash_of, crash_at, crash_next, move_next, due_next, open_next, crash_or_open, complete_next, owed_next, next, showable, carries, meets, in_line, has_bytes, reads_absent, writes_line, writes_fill, fits_caches, is_asking_at, fits_begin, fits_send, fits, played_on, played, all_fit_on, all_fit}
-use Rattle.lego_msg.specs.Laws.{NextMayCome, PlayedIsLegal}
 use Rattle.lego_msg.proofs.Senders.{same_some}
-use Rattle.lego_msg.proofs.Single.{begun_called}
+use Rattle.lego_msg.specs.Completions.{done_or, first_done}
+use Rattle.lego_msg.specs.Crashes.{IsEntry, IsNextInc, is_crash_moment, is_idle}
+use Rattle.lego_msg.specs.Deliveries.{is_sent, is_waiting}
+use Rattle.lego_msg.specs.Laws.{NextMayCome, PlayedIsLegal, shows}
+use Rattle.lego_msg.specs.Legal.{Legal, May}
+use Rattle.lego_msg.specs.Marks.{Call, Mark, Order, Show, is_turn, is_turn_end}
+use Rattle.lego_msg.specs.Next.{all_fit, all_fit_on, carries, complete_next, crash_at, crash_next, crash_of, crash_or_open, deliver_next, delivered_next, due_next, fits, fits_begin, fits_caches, fits_origin, fits_send, has_bytes, in_line, meets, move_next, next, open_next, owed_next, played, played_on, reads_absent, send_first, showable, writes_fill, writes_line}
+use Rattle.lego_msg.specs.Places.{is_issuer}
+use Rattle.lego_msg.specs.Run.{after}
+use Rattle.lego_msg.specs.Sends.{FitsCaches, FitsOrigin, IsFirst, IsMove, MayBegin, MaySend, ReadsAbsent, WritesLine, open_move, sent}
+use Rattle.lego_msg.specs.ShownEvents.{Carries, InLine, IsNext, Meets}
+use Rattle.lego_msg.specs.State.{Mem}
+use Rattle.lego_msg.specs.Track.{Caches, Filled, Quiet, Track, healing_move, is_any_done, is_calm, is_complete, is_crash_due, is_crash_left, is_done, next_crash, opened, picked}
+use Rattle.lego_msg.specs.declared.event.Event.{Event}
+use Rattle.lego_msg.specs.declared.event.Event.TheVariants.{Access, Complete, Crash, Deliver, Drop, Fill, Out, Send, Turn}
+use Rattle.lego_msg.specs.declared.event.Kind.{Kind}
+use Rattle.lego_msg.specs.declared.event.Kind.TheVariants.{CopyIn, CopyOut, Fetch, Load, Probe, Store}
+use Rattle.lego_msg.specs.declared.healing.Healing.{Healing}
+use Rattle.lego_msg.specs.declared.healing.Move.{Move}
+use Rattle.lego_msg.specs.declared.message.Message.{Message}
+use Rattle.lego_msg.specs.declared.operation.Open.{Open}
+use Rattle.lego_msg.specs.declared.operation.Operation.{Operation}
+use Rattle.lego_msg.specs.declared.operation.Operation.TheVariants.{Reads, Writes}
+use Rattle.lego_msg.specs.declared.operation.Origin.{Origin}
+use Rattle.lego_msg.specs.declared.place.Place.{Place}
+use Rattle.lego_msg.specs.declared.place.Place.TheVariants.{Manager, Memory, Processor, Storage}
+use Rattle.lego_msg.specs.declared.operation.Origin.TheVariants as origin
 
 none_some : {X : Type 0} (x : X) → None ≡ Some x → ⊥
 none_some x e = cc e
@@ -96,27 +104,31 @@ fill_is (Some f) p e =
     let bytes : f.bytes ≡ p.bytes = bytes_are f.bytes p.bytes all.2 in
     λ i. Some (record { pid = pid i; address = address i; bytes = bytes i })
 
+origin_is : (caches : Caches) (by : Place) (p : Patch) (from_ : Origin) → fits_origin caches by p from_ ≡ true → FitsOrigin caches by p from_
+origin_is caches by p origin.Line e = line_is caches by p e
+origin_is caches by p origin.Fill e = fill_is caches.filled p e
+origin_is caches by p origin.Run e = tt
+
 fits_is : (caches : Caches) (by : Place) (o : Operation) → fits_caches caches by o ≡ true → FitsCaches caches by o
 fits_is caches by (Reads pid line owner) e = absent_is caches by pid.0 line.0 e
-fits_is caches by (WritesBack patch owner) e = line_is caches by patch e
-fits_is caches by (WritesFill patch owner) e = fill_is caches.filled patch e
+fits_is caches by (Writes from_ patch owner) e = origin_is caches by patch from_ e
 fits_is caches by other e = tt
 
 -- WHAT COMES
 
 -- a completion, or what stands behind it
-complete_or : (net : List Message) (o : Option Open) (rest : Option Event) (e : Event) → complete_next net o rest ≡ Some e → ((x : Open) × (o ≡ Some x) × (is_complete net x ≡ true) × (Complete (record { 0 = x.number }) ≡ e)) ⊎ ((is_done net o ≡ false) × (rest ≡ Some e))
+complete_or : (net : List Message) (o : Option Open) (rest : Option Event) (e : Event) → complete_next net o rest ≡ Some e → ((x : Open) × (o ≡ Some x) × (is_complete net x ≡ true) × (Complete x.number ≡ e)) ⊎ ((is_done net o ≡ false) × (rest ≡ Some e))
 complete_or net None rest e next = inr (refl, next)
 complete_or net (Some x) rest e next = by (is_complete net x) refl next
   where
-    by : (b : Bool) → is_complete net x ≡ b → cond b (Some (Complete (record { 0 = x.number }))) rest ≡ Some e → ((y : Open) × (Some x ≡ Some y) × (is_complete net y ≡ true) × (Complete (record { 0 = y.number }) ≡ e)) ⊎ ((is_complete net x ≡ false) × (rest ≡ Some e))
+    by : (b : Bool) → is_complete net x ≡ b → cond b (Some (Complete x.number)) rest ≡ Some e → ((y : Open) × (Some x ≡ Some y) × (is_complete net y ≡ true) × (Complete y.number ≡ e)) ⊎ ((is_complete net x ≡ false) × (rest ≡ Some e))
     by true is next = inl (x, refl, is, same_some _ _ next)
     by false is next = inr (is, next)
 
-done_here : (net : List Message) (o : Option Open) (x : Open) (else_ : Option ℕ) → o ≡ Some x → is_complete net x ≡ true → done_or net o else_ ≡ Some x.number
+done_here : (net : List Message) (o : Option Open) (x : Open) (else_ : Option OpNo) → o ≡ Some x → is_complete net x ≡ true → done_or net o else_ ≡ Some x.number
 done_here net o x else_ e is = subst (λ (o : Option Open). done_or net o else_ ≡ Some x.number) (sym e) (subst (λ (b : Bool). cond b (Some x.number) else_ ≡ Some x.number) (sym is) refl)
 
-done_behind : (net : List Message) (o : Option Open) (else_ : Option ℕ) → is_done net o ≡ false → done_or net o else_ ≡ else_
+done_behind : (net : List Message) (o : Option Open) (else_ : Option OpNo) → is_done net o ≡ false → done_or net o else_ ≡ else_
 done_behind net None else_ e = refl
 done_behind net (Some o) else_ e = subst (λ (b : Bool). cond b (Some o.number) else_ ≡ else_) (sym e) refl
 
@@ -152,7 +164,7 @@ quiet : (t : Track) → t.owed ≡ [] → is_calm t ≡ true → t.healing ≡ N
 quiet t owed calm healed closed = record { owed = owed; closed = closed; healed = healed; calm = calm }
 
 -- a mark's event
-shown_may : (t : Track) (x e : Event) → Quiet t → IsNext x (next_due t) → (is_turn x && is_crash_left t) ≡ false → fits t e ≡ true → showable x ≡ Some e → May t e
+shown_may : (t : Track) (x e : Event) → Quiet t → IsNext x t.due → (is_turn x && is_crash_left t) ≡ false → fits t e ≡ true → showable x ≡ Some e → May t e
 shown_may t (Turn number pid) e q next ends fit shows = subst (May t) (same_some _ _ shows) ((q, next), ends)
 shown_may t (Access cpu pid address kind bytes) e q next ends fit shows =
     let same : Access cpu pid address kind bytes ≡ e = same_some _ _ shows in
@@ -168,23 +180,20 @@ shown_may t (Complete op) e q next ends fit shows = absurd (none_some e shows)
 shown_may t (Out stream bytes) e q next ends fit shows = subst (May t) (same_some _ _ shows) (q, next)
 
 -- an operation that is called for
-call_may : (t : Track) (due : List Mark) (m : Message) (o : Order) (rest : List Mark) → due ≡ Call o ∷ rest → fits_begin t.caches (called due) ≡ true → (o.late && is_crash_left t) ≡ false → IsFirst m (opened t.shape t.next o.by o.operation).unsent → MayBegin t m (called due)
+call_may : (t : Track) (due : List Mark) (m : Message) (o : Order) (rest : List Mark) → due ≡ Call o ∷ rest → fits_begin t.caches due ≡ true → (o.late && is_crash_left t) ≡ false → IsFirst m (opened t.shape t.next o.by o.operation).unsent → MayBegin t m due
 call_may t due m o rest is fit late first =
-    let both : (fits_caches t.caches o.by o.operation && is_issuer o.by) ≡ true = subst (λ (due : List Mark). fits_begin t.caches (called due) ≡ true) is fit in
-    subst (λ (due : List Mark). MayBegin t m (called due)) (sym is)
+    let both : (fits_caches t.caches o.by o.operation && is_issuer o.by) ≡ true = subst (λ (due : List Mark). fits_begin t.caches due ≡ true) is fit in
+    subst (λ (due : List Mark). MayBegin t m due) (sym is)
     (first, fits_is t.caches o.by o.operation (first_is _ _ both), late, second_is (fits_caches t.caches o.by o.operation) _ both)
 
-begin_may : (t : Track) (m : Message) → t.owed ≡ [] → is_calm t ≡ true → t.healing ≡ None → t.current ≡ None → is_asking_at m.body t.due ≡ false → MayBegin t m (called (next_due t)) → May t (Send m)
-begin_may t m owed calm healed closed asks may =
+begin_may : (t : Track) (m : Message) → t.owed ≡ [] → is_calm t ≡ true → t.healing ≡ None → t.current ≡ None → MayBegin t m t.due → May t (Send m)
+begin_may t m owed calm healed closed may =
     subst (λ (p : List Message × Option Healing × Option Open). MaySend t m p.0 p.1 p.2) (λ i. (sym owed i, sym healed i, sym closed i))
-    (calm, subst (MayBegin t m) (sym (begun_called t m.body t.due asks)) may)
+    (calm, may)
 
-fits_of : (t : Track) (m : Message) → t.owed ≡ [] → t.healing ≡ None → t.current ≡ None → fits t (Send m) ≡ true → (fits_begin t.caches (called (next_due t)) ≡ true) × (is_asking_at m.body t.due ≡ false)
+fits_of : (t : Track) (m : Message) → t.owed ≡ [] → t.healing ≡ None → t.current ≡ None → fits t (Send m) ≡ true → fits_begin t.caches t.due ≡ true
 fits_of t m owed healed closed fit =
-    let first : fits_send t t.owed t.healing t.current ≡ true = first_is _ _ fit in (
-      subst (λ (p : List Message × Option Healing × Option Open). fits_send t p.0 p.1 p.2 ≡ true) (λ i. (owed i, healed i, closed i)) first,
-      not_is (is_asking_at m.body t.due) (second_is (fits_send t t.owed t.healing t.current) _ fit),
-    )
+    subst (λ (p : List Message × Option Healing × Option Open). fits_send t p.0 p.1 p.2 ≡ true) (λ i. (owed i, healed i, closed i)) fit
 
 -- the first of some messages
 first_sent : (messages : List Message) (e : Event) → send_first messages None ≡ Some e → (m : Message) × IsFirst m messages × (Send m ≡ e)
@@ -194,20 +203,20 @@ first_sent (m ∷ messages) e next = (m, refl, same_some _ _ next)
 -- WITH NOTHING OPEN
 
 module _ (t : Track) (e : Event) (owed : t.owed ≡ []) (goes : (not t.stopped && not (is_any_done t)) ≡ true) (calm : is_calm t ≡ true) (healed : t.healing ≡ None) (closed : t.current ≡ None) (fit : fits t e ≡ true) where
-  over_moment : is_crash_left t ≡ true → is_turn_end (next_due t) ≡ true → is_crash_moment t ≡ true
+  over_moment : is_crash_left t ≡ true → is_turn_end t.due ≡ true → is_crash_moment t ≡ true
   over_moment left over = by (is_crash_due t)
     where
       idle : is_idle t.healing t.current ≡ true
       idle = λ i. is_idle (healed i) (closed i)
 
-      by : (b : Bool) → (b || (is_crash_left t && is_idle t.healing t.current && is_turn_end (next_due t))) ≡ true
+      by : (b : Bool) → (b || (is_crash_left t && is_idle t.healing t.current && is_turn_end t.due)) ≡ true
       by true = refl
       by false = λ i. left i && idle i && over i
 
-  over_may : is_crash_left t ≡ true → is_turn_end (next_due t) ≡ true → crash_next t ≡ Some e → May t e
+  over_may : is_crash_left t ≡ true → is_turn_end t.due ≡ true → crash_next t ≡ Some e → May t e
   over_may left over next = crash_may t (next_crash t.shape t.clock) e owed goes (over_moment left over) refl next
 
-  due_may : (due : List Mark) → next_due t ≡ due → due_next t due ≡ Some e → May t e
+  due_may : (due : List Mark) → t.due ≡ due → due_next t due ≡ Some e → May t e
   due_may [] is next = by (is_crash_left t) refl next
     where
       by : (b : Bool) → is_crash_left t ≡ b → cond b (crash_next t) None ≡ Some e → May t e
@@ -225,8 +234,7 @@ module _ (t : Track) (e : Event) (owed : t.owed ≡ []) (goes : (not t.stopped &
       by false both next =
           let sent = first_sent (opened t.shape t.next o.by o.operation).unsent e next in
           let f = fits_of t sent.0 owed healed closed (ap (fits t) sent.2 ∙ fit) in
-          subst (May t) sent.2 (begin_may t sent.0 owed calm healed closed f.1 (call_may t (next_due t) sent.0 o due is f.0 both sent.1))
-  due_may (Asking by pid must ∷ due) is next = absurd (none_some e next)
+          subst (May t) sent.2 (begin_may t sent.0 owed calm healed closed (call_may t t.due sent.0 o due is f both sent.1))
 
 -- WITH SOMETHING OPEN
 
@@ -258,7 +266,7 @@ module _ (t : Track) (e : Event) (owed : t.owed ≡ []) (calm : is_calm t ≡ tr
 open_may : (t : Track) (e : Event) (h : Option Healing) (o : Option Open) → t.owed ≡ [] → (not t.stopped && not (is_any_done t)) ≡ true → is_calm t ≡ true → t.healing ≡ h → t.current ≡ o → fits t e ≡ true → open_next t h o ≡ Some e → May t e
 open_may t e (Some h) o owed goes calm healing current fit next = move_may t e owed calm h h.current h.moves healing refl refl next
 open_may t e None (Some o) owed goes calm healing current fit next = current_may t e owed calm o o.unsent healing current refl next
-open_may t e None None owed goes calm healing current fit next = due_may t e owed goes calm healing current fit (next_due t) refl next
+open_may t e None None owed goes calm healing current fit next = due_may t e owed goes calm healing current fit t.due refl next
 
 goes_so : (a b : Bool) → a ≡ false → b ≡ false → (not a && not b) ≡ true
 goes_so true b e f = cc e
@@ -279,10 +287,10 @@ crash_or_may : (t : Track) (e : Event) → t.owed ≡ [] → t.stopped ≡ false
 crash_or_may t e owed goes none fit next = by (is_crash_due t) refl next
   where
     by : (b : Bool) → is_crash_due t ≡ b → cond b (crash_next t) (open_next t t.healing t.current) ≡ Some e → May t e
-    by true due next = crash_may t (next_crash t.shape t.clock) e owed (goes_so t.stopped (is_any_done t) goes none) (ap (λ (b : Bool). b || (is_crash_left t && is_idle t.healing t.current && is_turn_end (next_due t))) due) refl next
+    by true due next = crash_may t (next_crash t.shape t.clock) e owed (goes_so t.stopped (is_any_done t) goes none) (ap (λ (b : Bool). b || (is_crash_left t && is_idle t.healing t.current && is_turn_end t.due)) due) refl next
     by false due next = open_may t e t.healing t.current owed (goes_so t.stopped (is_any_done t) goes none) (calm_so t.stopped (is_any_done t) (is_crash_due t) goes none due) refl refl fit next
 
-completes_may : (t : Track) (e : Event) (x : Open) → t.owed ≡ [] → t.stopped ≡ false → first_done t ≡ Some x.number → Complete (record { 0 = x.number }) ≡ e → May t e
+completes_may : (t : Track) (e : Event) (x : Open) → t.owed ≡ [] → t.stopped ≡ false → first_done t ≡ Some x.number → Complete x.number ≡ e → May t e
 completes_may t e x owed goes done is = subst (May t) is (record { owed = owed; goes_on = goes; complete = done })
 
 unstopped_may : (t : Track) (e : Event) → t.owed ≡ [] → t.stopped ≡ false → fits t e ≡ true → complete_next t.net (healing_move t.healing) (complete_next t.net t.current (crash_or_open t)) ≡ Some e → May t e

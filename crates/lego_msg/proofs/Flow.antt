@@ -1,20 +1,26 @@
 -- What each event leaves as it is, and what it does to what is pending.
-use Rattle.std.proofs.Common.{◌≡◌, ℕ, slice_get, ◌+◌, Bool, true, false, cond, List, [], ◌∷◌, ◌++◌, Option, Some, None, refl, ◌∙◌, ap, subst, arith}
+use Rattle.std.proofs.Common.{◌≡◌, ◌+◌, [], ◌∷◌, ◌++◌, ◌∙◌, ℕ, Bool, List, None, Option, Some, ap, arith, cond, false, refl, slice_get, subst, true}
 use Rattle.lego_base.specs.declared.shape.Shape.{Shape}
-use Rattle.lego_msg.specs.declared.place.Place.{Place}
-use Rattle.lego_msg.specs.declared.place.Place.TheVariants.{Processor, Memory, Storage, Manager}
-use Rattle.lego_msg.specs.declared.body.Body.{Body}
-use Rattle.lego_msg.specs.declared.message.Message.{Message}
-use Rattle.lego_msg.specs.declared.event.Event.{Event}
-use Rattle.lego_msg.specs.declared.event.Event.TheVariants.{Turn, Access, Fill, Drop, Send, Deliver, Crash, Complete, Out}
-use Rattle.lego_msg.specs.State.{Mem}
-use Rattle.lego_msg.specs.Healing.{Move}
+use Rattle.lego_msg.proofs.Lists.{Legal-back, Legal-front}
+use Rattle.lego_msg.specs.Completions.{completed, completed_beside, finished, move_finished}
+use Rattle.lego_msg.specs.Deliveries.{comes, issuer_gets, memory_handles, noted, noted_by_move, noted_with, reaction_of, reacts, stops, taken}
+use Rattle.lego_msg.specs.Laws.{DeliveriesArePicked, deliveries_in, pending_along, pending_of}
+use Rattle.lego_msg.specs.Legal.{Legal}
+use Rattle.lego_msg.specs.Marks.{Call, Mark, Show}
 use Rattle.lego_msg.specs.Operations.{patch_of}
-use Rattle.lego_msg.specs.Track.{Open, Healing, Track, start, picked}
-use Rattle.lego_msg.specs.Run.{Begin, begun, begins_with, move_begins, sent, taken, memory_handles, stops, reaction_of, reacts, noted, noted_by_move, noted_with, issuer_gets, comes, finished, move_finished, completed_beside, completed, after, run}
-use Rattle.lego_msg.specs.Legal.{MayBegin, IsMove, MaySend, Legal}
-use Rattle.lego_msg.specs.Laws.{deliveries_in, pending_along, pending_of, DeliveriesArePicked}
-use Rattle.lego_msg.proofs.Lists.{Legal-front, Legal-back}
+use Rattle.lego_msg.specs.Run.{after, run}
+use Rattle.lego_msg.specs.Sends.{IsMove, MayBegin, MaySend, begins, move_begins, sent}
+use Rattle.lego_msg.specs.State.{Mem}
+use Rattle.lego_msg.specs.Track.{Track, picked, start}
+use Rattle.lego_msg.specs.declared.body.Body.{Body}
+use Rattle.lego_msg.specs.declared.event.Event.{Event}
+use Rattle.lego_msg.specs.declared.event.Event.TheVariants.{Access, Complete, Crash, Deliver, Drop, Fill, Out, Send, Turn}
+use Rattle.lego_msg.specs.declared.healing.Healing.{Healing}
+use Rattle.lego_msg.specs.declared.healing.Move.{Move}
+use Rattle.lego_msg.specs.declared.message.Message.{Message}
+use Rattle.lego_msg.specs.declared.operation.Open.{Open}
+use Rattle.lego_msg.specs.declared.place.Place.{Place}
+use Rattle.lego_msg.specs.declared.place.Place.TheVariants.{Manager, Memory, Processor, Storage}
 
 -- the components, the net and the clock stay as they are
 pub record Same (t t' : Track) : Type 0 where
@@ -82,9 +88,10 @@ pub record Sent (t t' : Track) (m : Message) : Type 0 where
   pub delivered : t'.delivered ≡ t.delivered
   pub clock : t'.clock ≡ t.clock
 
-begins_sent : (t : Track) (m : Message) (b : Option Begin) → MayBegin t m b → Sent t (begins_with t m b) m
-begins_sent t m None may = absurd may
-begins_sent t m (Some b) may = record { shape = refl; mems = refl; disk = refl; net = refl; delivered = refl; clock = refl }
+begins_sent : (t : Track) (m : Message) (due : List Mark) → MayBegin t m due → Sent t (begins t m due) m
+begins_sent t m [] may = absurd may
+begins_sent t m (Show e ∷ due) may = absurd may
+begins_sent t m (Call o ∷ due) may = record { shape = refl; mems = refl; disk = refl; net = refl; delivered = refl; clock = refl }
 
 move_sent : (t : Track) (m : Message) (h : Healing) (o : Option Open) (moves : List Move) → IsMove t m h o moves → Sent t (move_begins t m h moves) m
 move_sent t m h (Some o) moves may = absurd may
@@ -95,7 +102,7 @@ pub send_sent : (t : Track) (m : Message) (owed : List Message) (h : Option Heal
 send_sent t m (x ∷ owed) h o may = record { shape = refl; mems = refl; disk = refl; net = refl; delivered = refl; clock = refl }
 send_sent t m [] (Some h) o may = move_sent t m h h.current h.moves may.1
 send_sent t m [] None (Some o) may = record { shape = refl; mems = refl; disk = refl; net = refl; delivered = refl; clock = refl }
-send_sent t m [] None None may = begins_sent t m (begun t m.body t.due) may.1
+send_sent t m [] None None may = begins_sent t m t.due may.1
 
 -- DELIVERIES take one out, and count
 
@@ -119,27 +126,27 @@ handles_due : (t : Track) (number : ℕ) (m : Message) (s : Option Mem) → (mem
 handles_due t number m None = refl
 handles_due t number m (Some s) = refl
 
-pub record Came (t t' : Track) : Type 0 where
+pub record Arrived (t t' : Track) : Type 0 where
   pub shape : t'.shape ≡ t.shape
   pub net : t'.net ≡ t.net
   pub delivered : t'.delivered ≡ t.delivered
   pub clock : t'.clock ≡ t.clock
   pub due : t'.due ≡ t.due
 
-issuer_came : (t t' : Track) → Same t t' → Came t t'
-issuer_came t t' same = record { shape = same.shape; net = same.net; delivered = same.delivered; clock = same.clock; due = same.due }
+issuer_arrived : (t t' : Track) → Same t t' → Arrived t t'
+issuer_arrived t t' same = record { shape = same.shape; net = same.net; delivered = same.delivered; clock = same.clock; due = same.due }
 
-pub comes_came : (t : Track) (m : Message) (to : Place) → Came t (comes t m to)
-comes_came t m (Processor cpu) = issuer_came t _ (issuer_same t m)
-comes_came t m (Memory number) = record {
+pub comes_arrived : (t : Track) (m : Message) (to : Place) → Arrived t (comes t m to)
+comes_arrived t m (Processor cpu) = issuer_arrived t _ (issuer_same t m)
+comes_arrived t m (Memory number) = record {
   shape = handles_shape t number.0 m (slice_get t.mems number.0);
   net = handles_net t number.0 m (slice_get t.mems number.0);
   delivered = handles_delivered t number.0 m (slice_get t.mems number.0);
   clock = handles_clock t number.0 m (slice_get t.mems number.0);
   due = handles_due t number.0 m (slice_get t.mems number.0);
 }
-comes_came t m Storage = record { shape = refl; net = refl; delivered = refl; clock = refl; due = refl }
-comes_came t m Manager = issuer_came t _ (issuer_same t m)
+comes_arrived t m Storage = record { shape = refl; net = refl; delivered = refl; clock = refl; due = refl }
+comes_arrived t m Manager = issuer_arrived t _ (issuer_same t m)
 
 -- ALONG A LIST
 
@@ -150,12 +157,12 @@ shape_along t (Access cpu pid address kind bytes ∷ es) legal = shape_along (af
 shape_along t (Fill pid address bytes ∷ es) legal = shape_along (after t (Fill pid address bytes)) es legal.1
 shape_along t (Drop cpu pid line ∷ es) legal = shape_along (after t (Drop cpu pid line)) es legal.1
 shape_along t (Send m ∷ es) legal = shape_along (after t (Send m)) es legal.1 ∙ (send_sent t m t.owed t.healing t.current legal.0).shape
-shape_along t (Deliver m ∷ es) legal = shape_along (after t (Deliver m)) es legal.1 ∙ (comes_came (taken t) m m.to).shape
+shape_along t (Deliver m ∷ es) legal = shape_along (after t (Deliver m)) es legal.1 ∙ (comes_arrived (taken t) m m.to).shape
 shape_along t (Crash number inc ∷ es) legal = shape_along (after t (Crash number inc)) es legal.1
 shape_along t (Complete op ∷ es) legal = shape_along (after t (Complete op)) es legal.1 ∙ (completed_same t op.0 t.healing).shape
 shape_along t (Out stream bytes ∷ es) legal = shape_along (after t (Out stream bytes)) es legal.1
 
-add_one : (a b c : ℕ) → b ≡ a + 1 → b + c ≡ a + (1 + c)
+add_one : (a b c : ℕ) → b ≡ a + 1 → b + c ≡ a + (c + 1)
 add_one a b c e = omega (arith, e)
 
 pub delivered_along : (t : Track) (es : List Event) → Legal t es → (run t es).delivered ≡ t.delivered + deliveries_in es
@@ -165,7 +172,7 @@ delivered_along t (Access cpu pid address kind bytes ∷ es) legal = delivered_a
 delivered_along t (Fill pid address bytes ∷ es) legal = delivered_along (after t (Fill pid address bytes)) es legal.1
 delivered_along t (Drop cpu pid line ∷ es) legal = delivered_along (after t (Drop cpu pid line)) es legal.1
 delivered_along t (Send m ∷ es) legal = delivered_along (after t (Send m)) es legal.1 ∙ ap (λ n. n + deliveries_in es) (send_sent t m t.owed t.healing t.current legal.0).delivered
-delivered_along t (Deliver m ∷ es) legal = delivered_along (after t (Deliver m)) es legal.1 ∙ add_one t.delivered _ (deliveries_in es) (comes_came (taken t) m m.to).delivered
+delivered_along t (Deliver m ∷ es) legal = delivered_along (after t (Deliver m)) es legal.1 ∙ add_one t.delivered _ (deliveries_in es) (comes_arrived (taken t) m m.to).delivered
 delivered_along t (Crash number inc ∷ es) legal = delivered_along (after t (Crash number inc)) es legal.1
 delivered_along t (Complete op ∷ es) legal = delivered_along (after t (Complete op)) es legal.1 ∙ ap (λ n. n + deliveries_in es) (completed_same t op.0 t.healing).delivered
 delivered_along t (Out stream bytes ∷ es) legal = delivered_along (after t (Out stream bytes)) es legal.1
@@ -187,7 +194,7 @@ net_along t (Send m ∷ es) legal =
     let s = send_sent t m t.owed t.healing t.current legal.0 in
     net_along (after t (Send m)) es legal.1 ∙ flow_of _ _ _ _ _ _ es s.shape s.delivered s.net
 net_along t (Deliver m ∷ es) legal =
-    let s = comes_came (taken t) m m.to in
+    let s = comes_arrived (taken t) m m.to in
     net_along (after t (Deliver m)) es legal.1 ∙ flow_of _ _ _ _ _ _ es s.shape s.delivered s.net
 net_along t (Crash number inc ∷ es) legal = net_along (after t (Crash number inc)) es legal.1
 net_along t (Complete op ∷ es) legal =

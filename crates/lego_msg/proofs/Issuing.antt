@@ -1,21 +1,29 @@
 -- A memory or storage sends only what it owes.
-use Rattle.std.proofs.Common.{◌≡◌, ℕ, Bool, true, false, cond, eqb, List, [], ◌∷◌, Option, Some, None, refl, sym, ◌∙◌, ap, subst, slice_get, drop}
+use Rattle.std.proofs.Common.{◌≡◌, [], ◌∷◌, ◌∙◌, ℕ, Bool, List, None, Option, Some, ap, cond, drop, eqb, false, refl, slice_get, subst, sym, true}
 use Rattle.std.specs.List.{AllByRecursion}
-use Rattle.lego_msg.specs.declared.place.Place.{Place}
-use Rattle.lego_msg.specs.declared.place.Place.TheVariants.{Processor, Memory, Storage, Manager}
-use Rattle.lego_msg.specs.declared.body.Body.{Body}
-use Rattle.lego_msg.specs.declared.message.Message.{Message}
-use Rattle.lego_msg.specs.declared.event.Event.{Event}
-use Rattle.lego_msg.specs.declared.event.Event.TheVariants.{Turn, Access, Fill, Drop, Send, Deliver, Crash, Complete, Out}
-use Rattle.lego_msg.specs.Places.{is_issuer}
-use Rattle.lego_msg.specs.State.{Mem}
-use Rattle.lego_msg.specs.Operations.{Ask, asks_of, messages_of, patch_of}
-use Rattle.lego_msg.specs.Healing.{Move}
-use Rattle.lego_msg.specs.Track.{Open, Healing, Track, start, memory_count}
-use Rattle.lego_msg.specs.Run.{Begin, begun, begins_with, move_begins, sent, taken, memory_handles, stops, reaction_of, reacts, answered, noted, noted_by_move, noted_with, issuer_gets, comes, finished, sent_again, forgotten, move_finished, completed_beside, completed, open_move, after, run}
-use Rattle.lego_msg.specs.Legal.{IsFirst, IsMove, MayBegin, MaySend, Legal}
+use Rattle.lego_base.specs.declared.ids.OpNo.{OpNo}
+use Rattle.lego_msg.proofs.Lists.{Legal-back, Legal-front}
+use Rattle.lego_msg.specs.Completions.{completed, completed_beside, finished, move_finished, sent_again}
+use Rattle.lego_msg.specs.Crashes.{forgotten}
+use Rattle.lego_msg.specs.Deliveries.{answered, comes, issuer_gets, memory_handles, noted, noted_by_move, noted_with, reaction_of, reacts, stops, taken}
 use Rattle.lego_msg.specs.Laws.{OthersSendWhatTheyOwe}
-use Rattle.lego_msg.proofs.Lists.{Legal-front, Legal-back}
+use Rattle.lego_msg.specs.Legal.{Legal}
+use Rattle.lego_msg.specs.Marks.{Call, Mark, Show}
+use Rattle.lego_msg.specs.Operations.{Ask, asks_of, messages_of, patch_of}
+use Rattle.lego_msg.specs.Places.{is_issuer}
+use Rattle.lego_msg.specs.Run.{after, run}
+use Rattle.lego_msg.specs.Sends.{IsFirst, IsMove, MayBegin, MaySend, begins, move_begins, open_move, sent}
+use Rattle.lego_msg.specs.State.{Mem}
+use Rattle.lego_msg.specs.Track.{Track, memory_count, start}
+use Rattle.lego_msg.specs.declared.body.Body.{Body}
+use Rattle.lego_msg.specs.declared.event.Event.{Event}
+use Rattle.lego_msg.specs.declared.event.Event.TheVariants.{Access, Complete, Crash, Deliver, Drop, Fill, Out, Send, Turn}
+use Rattle.lego_msg.specs.declared.healing.Healing.{Healing}
+use Rattle.lego_msg.specs.declared.healing.Move.{Move}
+use Rattle.lego_msg.specs.declared.message.Message.{Message}
+use Rattle.lego_msg.specs.declared.operation.Open.{Open}
+use Rattle.lego_msg.specs.declared.place.Place.{Place}
+use Rattle.lego_msg.specs.declared.place.Place.TheVariants.{Manager, Memory, Processor, Storage}
 
 abbrev AllFrom : Place → List Message → Type 0
 AllFrom by messages = AllByRecursion (λ (m : Message). m.from ≡ by) messages
@@ -25,7 +33,7 @@ abbrev Issued : Option Open → Type 0
 Issued None = Unit {0}
 Issued (Some o) = (is_issuer o.by ≡ true) × AllFrom o.by o.unsent
 
-messages_from : (by : Place) (n : ℕ) (asks : List Ask) → AllFrom by (messages_of by n asks)
+messages_from : (by : Place) (n : OpNo) (asks : List Ask) → AllFrom by (messages_of by n asks)
 messages_from by n [] = tt
 messages_from by n (a ∷ asks) = (refl, messages_from by n asks)
 
@@ -43,11 +51,11 @@ reacts_issued t o m (Some b) e issued = issued
 
 noted_issued : (t : Track) (m : Message) (o : Option Open) → t.current ≡ o → Issued t.current → Issued (noted t m o).current
 noted_issued t m None e issued = issued
-noted_issued t m (Some o) e issued = either_issued (reacts t o m (reaction_of (patch_of o.operation) m.body)) t (eqb m.op.0 o.number) (reacts_issued t o m (reaction_of (patch_of o.operation) m.body) e issued) issued
+noted_issued t m (Some o) e issued = either_issued (reacts t o m (reaction_of (patch_of o.operation) m.body)) t (eqb m.op.0 o.number.0) (reacts_issued t o m (reaction_of (patch_of o.operation) m.body) e issued) issued
 
 move_issued : (t : Track) (m : Message) (h : Healing) (o : Option Open) → Issued t.current → Issued (noted_by_move t m h o).current
 move_issued t m h None issued = noted_issued t m t.current refl issued
-move_issued t m h (Some o) issued = either_issued (record t { healing = Some (record h { current = Some (answered o m) }) }) (noted t m t.current) (eqb m.op.0 o.number) issued (noted_issued t m t.current refl issued)
+move_issued t m h (Some o) issued = either_issued (record t { healing = Some (record h { current = Some (answered o m) }) }) (noted t m t.current) (eqb m.op.0 o.number.0) issued (noted_issued t m t.current refl issued)
 
 with_issued : (t : Track) (m : Message) (h : Option Healing) → Issued t.current → Issued (noted_with t m h).current
 with_issued t m None issued = noted_issued t m t.current refl issued
@@ -66,9 +74,10 @@ comes_issued t m (Memory number) issued = handles_issued t number.0 m (slice_get
 comes_issued t m Storage issued = issued
 comes_issued t m Manager issued = issuer_issued t m issued
 
-begins_issued : (t : Track) (m : Message) (b : Option Begin) → MayBegin t m b → Issued (begins_with t m b).current
-begins_issued t m None may = absurd may
-begins_issued t m (Some b) may = (may.3, rest_from b.begins.by _ (messages_from b.begins.by t.next (asks_of (memory_count t.shape) b.begins.operation)))
+begins_issued : (t : Track) (m : Message) (due : List Mark) → MayBegin t m due → Issued (begins t m due).current
+begins_issued t m [] may = absurd may
+begins_issued t m (Show e ∷ due) may = absurd may
+begins_issued t m (Call o ∷ due) may = (may.3, rest_from o.by _ (messages_from o.by (record { 0 = t.next }) (asks_of (memory_count t.shape) o.operation)))
 
 moves_issued : (t : Track) (m : Message) (h : Healing) (moves : List Move) → Issued t.current → Issued (move_begins t m h moves).current
 moves_issued t m h [] issued = issued
@@ -80,7 +89,7 @@ sent_issued t m [] (Some h) o e may issued = moves_issued t m h h.moves issued
 sent_issued t m [] None (Some o) e may issued =
     let here : Issued (Some o) = subst Issued e issued in
     (here.0, rest_from o.by o.unsent here.1)
-sent_issued t m [] None None e may issued = begins_issued t m (begun t m.body t.due) may.1
+sent_issued t m [] None None e may issued = begins_issued t m t.due may.1
 
 forgotten_issued : (p : Place) (o : Option Open) → Issued o → Issued (forgotten p o)
 forgotten_issued p None issued = tt
@@ -100,7 +109,7 @@ move_finished_issued t h o (move ∷ moves) issued = issued
 
 beside_issued : (t : Track) (n : ℕ) (h : Healing) (o : Option Open) → Issued t.current → Issued (completed_beside t n h o).current
 beside_issued t n h None issued = finished_issued t t.current issued
-beside_issued t n h (Some o) issued = either_issued (move_finished t h o h.moves) (finished t t.current) (eqb o.number n) (move_finished_issued t h o h.moves issued) (finished_issued t t.current issued)
+beside_issued t n h (Some o) issued = either_issued (move_finished t h o h.moves) (finished t t.current) (eqb o.number.0 n) (move_finished_issued t h o h.moves issued) (finished_issued t t.current issued)
 
 completed_issued : (t : Track) (n : ℕ) (h : Option Healing) → Issued t.current → Issued (completed t n h).current
 completed_issued t n None issued = finished_issued t t.current issued
@@ -129,11 +138,12 @@ not_first m by (x ∷ messages) first all issuer other = both_ways (is_issuer m.
 not_move : (t : Track) (m : Message) (h : Healing) (o : Option Open) (moves : List Move) → IsMove t m h o moves → is_issuer m.from ≡ false → ⊥
 not_move t m h (Some o) moves may other = may
 not_move t m h None [] may other = may
-not_move t m h None (move ∷ moves) may other = not_first m Manager (open_move t move h.got).unsent may (messages_from Manager t.next (asks_of (memory_count t.shape) (open_move t move h.got).operation)) refl other
+not_move t m h None (move ∷ moves) may other = not_first m Manager (open_move t move h.got).unsent may (messages_from Manager (record { 0 = t.next }) (asks_of (memory_count t.shape) (open_move t move h.got).operation)) refl other
 
-not_begun : (t : Track) (m : Message) (b : Option Begin) → MayBegin t m b → is_issuer m.from ≡ false → ⊥
-not_begun t m None may other = may
-not_begun t m (Some b) may other = not_first m b.begins.by _ may.0 (messages_from b.begins.by t.next (asks_of (memory_count t.shape) b.begins.operation)) may.3 other
+not_begun : (t : Track) (m : Message) (due : List Mark) → MayBegin t m due → is_issuer m.from ≡ false → ⊥
+not_begun t m [] may other = may
+not_begun t m (Show e ∷ due) may other = may
+not_begun t m (Call o ∷ due) may other = not_first m o.by _ may.0 (messages_from o.by (record { 0 = t.next }) (asks_of (memory_count t.shape) o.operation)) may.3 other
 
 owes_it : (t : Track) (m : Message) (owed : List Message) (h : Option Healing) (o : Option Open) → t.current ≡ o → Issued t.current → MaySend t m owed h o → is_issuer m.from ≡ false → (rest : List Message) × (owed ≡ m ∷ rest)
 owes_it t m (x ∷ owed) h o e issued may other = (owed, ap (λ (m : Message). m ∷ owed) (sym may))
@@ -141,7 +151,7 @@ owes_it t m [] (Some h) o e issued may other = absurd (not_move t m h h.current 
 owes_it t m [] None (Some o) e issued may other =
     let here : Issued (Some o) = subst Issued e issued in
     absurd (not_first m o.by o.unsent may.1 here.1 here.0 other)
-owes_it t m [] None None e issued may other = absurd (not_begun t m (begun t m.body t.due) may.1 other)
+owes_it t m [] None None e issued may other = absurd (not_begun t m t.due may.1 other)
 
 pub others-send-what-they-owe : OthersSendWhatTheyOwe
 others-send-what-they-owe shape due es fs m legal other =

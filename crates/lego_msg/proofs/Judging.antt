@@ -1,28 +1,38 @@
 -- The answers of an open operation are those that the list of events has since each place's last crash.
-use Rattle.std.proofs.Common.{◌≡◌, inl, inr, ℕ, Bool, true, false, cond, not, ◌&&◌, ◌||◌, eqb, List, [], ◌∷◌, ◌++◌, Option, Some, None, is_some, refl, sym, ◌∙◌, ap, subst, slice_get}
-use Rattle.std.proofs.lemmas.Bool.{eqb-true, eq-eqb}
+use Rattle.std.proofs.Common.{◌≡◌, ◌&&◌, ◌||◌, [], ◌∷◌, ◌++◌, ◌∙◌, ℕ, Bool, List, None, Option, Some, ap, cond, eqb, false, inl, inr, is_some, not, refl, slice_get, subst, sym, true}
+use Rattle.std.proofs.lemmas.Bool.{eq-eqb, eqb-true}
+use Rattle.lego_base.specs.declared.ids.OpNo.{OpNo}
 use Rattle.lego_base.specs.declared.records.Patch.{Patch}
-use Rattle.lego_msg.specs.declared.place.Place.{Place}
-use Rattle.lego_msg.specs.declared.place.Place.TheVariants.{Processor, Memory, Storage, Manager}
-use Rattle.lego_msg.specs.declared.body.Body.{Body}
-use Rattle.lego_msg.specs.declared.body.Body.TheVariants.{LogFull, Drained}
-use Rattle.lego_msg.specs.declared.message.Message.{Message}
-use Rattle.lego_msg.specs.declared.event.Event.{Event}
-use Rattle.lego_msg.specs.declared.event.Event.TheVariants.{Turn, Access, Fill, Drop, Send, Deliver, Crash, Complete, Out}
-use Rattle.lego_msg.specs.Places.{memory, same_place, is_issuer}
-use Rattle.lego_msg.specs.State.{Mem}
-use Rattle.lego_msg.specs.Healing.{Move}
-use Rattle.lego_msg.specs.Operations.{Operation, patch_of, has_patch, is_write}
-use Rattle.lego_msg.specs.Track.{Answer, Open, Healing, Track, start, healing_move, has_answered, all_answered, is_pending, is_complete, forget}
-use Rattle.lego_msg.specs.Run.{move_begins, sent, taken, memory_handles, stops, reaction, reaction_of, reacts, answered, noted, noted_by_move, noted_with, issuer_gets, comes, finished, sent_again, forgotten, move_finished, completed_beside, completed, crashed, after, run}
-use Rattle.lego_msg.specs.Legal.{first_done, Legal}
-use Rattle.lego_msg.specs.Judged.{is_reaction, answered_after, answered_along, all_answered_in, is_complete_in}
-use Rattle.lego_msg.specs.Laws.{is_other, is_uncompleted, pending_of, CompletionsAreByTheList}
-use Rattle.lego_msg.proofs.Lists.{run-append, Legal-front, Legal-back, Legal-append}
 use Rattle.lego_msg.proofs.Flow.{net_along}
-use Rattle.lego_msg.proofs.Senders.{same_some}
+use Rattle.lego_msg.proofs.Lists.{Legal-append, Legal-back, Legal-front, run-append}
 use Rattle.lego_msg.proofs.Moments.{due_from}
-use Rattle.lego_msg.proofs.Numbers.{number_of, Apart, Ordered, after_ordered, ordered_along}
+use Rattle.lego_msg.proofs.Numbers.{Apart, Ordered, after_ordered, number_of, ordered_along}
+use Rattle.lego_msg.proofs.Senders.{same_some}
+use Rattle.lego_msg.specs.Completions.{completed, completed_beside, finished, first_done, move_finished, sent_again}
+use Rattle.lego_msg.specs.Crashes.{crashed, forgotten}
+use Rattle.lego_msg.specs.Deliveries.{answered, comes, issuer_gets, memory_handles, noted, noted_by_move, noted_with, reaction, reaction_of, reacts, stops, taken}
+use Rattle.lego_msg.specs.Judged.{all_answered_in, answered_after, answered_along, is_complete_in, is_reaction}
+use Rattle.lego_msg.specs.Laws.{CompletionsAreByTheList, is_other, is_uncompleted, pending_of}
+use Rattle.lego_msg.specs.Legal.{Legal}
+use Rattle.lego_msg.specs.Operations.{has_patch, is_write, patch_of}
+use Rattle.lego_msg.specs.Places.{is_issuer, memory, same_place}
+use Rattle.lego_msg.specs.Run.{after, run}
+use Rattle.lego_msg.specs.Sends.{move_begins, sent}
+use Rattle.lego_msg.specs.State.{Mem, kept}
+use Rattle.lego_msg.specs.Table.{answers}
+use Rattle.lego_msg.specs.Track.{Track, all_answered, forget, has_answered, healing_move, is_complete, is_pending, start}
+use Rattle.lego_msg.specs.declared.body.Body.{Body}
+use Rattle.lego_msg.specs.declared.body.Body.TheVariants.{Drained, LogFull}
+use Rattle.lego_msg.specs.declared.event.Event.{Event}
+use Rattle.lego_msg.specs.declared.event.Event.TheVariants.{Access, Complete, Crash, Deliver, Drop, Fill, Out, Send, Turn}
+use Rattle.lego_msg.specs.declared.healing.Healing.{Healing}
+use Rattle.lego_msg.specs.declared.healing.Move.{Move}
+use Rattle.lego_msg.specs.declared.message.Message.{Message}
+use Rattle.lego_msg.specs.declared.operation.Answer.{Answer}
+use Rattle.lego_msg.specs.declared.operation.Open.{Open}
+use Rattle.lego_msg.specs.declared.operation.Operation.{Operation}
+use Rattle.lego_msg.specs.declared.place.Place.{Place}
+use Rattle.lego_msg.specs.declared.place.Place.TheVariants.{Manager, Memory, Processor, Storage}
 
 none_open : (o : Open) → None ≡ Some o → ⊥
 none_open o e = cc e
@@ -134,7 +144,7 @@ reaction_is (Some patch) b = some_reaction patch b
 
 -- the tests of a message to this place
 abbrev answers_at : Open → Message → Bool → Bool → Place → Bool
-answers_at o m issuer stop p = eqb m.op.0 o.number && issuer && same_place p m.from && not (is_reaction (is_write o.operation) m.body) && not stop
+answers_at o m issuer stop p = eqb m.op.0 o.number.0 && issuer && same_place p m.from && not (is_reaction (is_write o.operation) m.body) && not stop
 
 differ_eqb : (a b : ℕ) → (a ≡ b → ⊥) → eqb a b ≡ false
 differ_eqb a b differ = by (eqb a b) refl
@@ -143,7 +153,7 @@ differ_eqb a b differ = by (eqb a b) refl
     by true e = absurd (differ (eqb-true a b e))
     by false e = refl
 
-reacts_still : (o : Open) (f : Place → Bool) (t : Track) (m : Message) (x : Open) (r : Option Body) → t.current ≡ Some x → Still o f t → eqb m.op.0 o.number ≡ true → is_reaction (is_write o.operation) m.body ≡ is_some r → Still o (λ p. answers_at o m true false p || f p) (reacts t x m r)
+reacts_still : (o : Open) (f : Place → Bool) (t : Track) (m : Message) (x : Open) (r : Option Body) → t.current ≡ Some x → Still o f t → eqb m.op.0 o.number.0 ≡ true → is_reaction (is_write o.operation) m.body ≡ is_some r → Still o (λ p. answers_at o m true false p || f p) (reacts t x m r)
 reacts_still o f t m x None e still ours r =
     let s = said o f t x e still in
     record {
@@ -152,45 +162,45 @@ reacts_still o f t m x None e still ours r =
       number = s.number;
       operation = s.operation;
       targets = s.targets;
-      answers = λ p. ap (λ (b : Bool). same_place p m.from || b) (s.answers p) ∙ is_ours (eqb m.op.0 o.number) (same_place p m.from) (is_reaction (is_write o.operation) m.body) (f p) ours r;
+      answers = λ p. ap (λ (b : Bool). same_place p m.from || b) (s.answers p) ∙ is_ours (eqb m.op.0 o.number.0) (same_place p m.from) (is_reaction (is_write o.operation) m.body) (f p) ours r;
     }
 reacts_still o f t m x (Some b) e still ours r =
-    same_answers o f _ _ (λ p. reaction_is_none (eqb m.op.0 o.number) true (same_place p m.from) (is_reaction (is_write o.operation) m.body) true (f p) r)
+    same_answers o f _ _ (λ p. reaction_is_none (eqb m.op.0 o.number.0) true (same_place p m.from) (is_reaction (is_write o.operation) m.body) true (f p) r)
     (same_current o f t _ refl still)
 
 -- a message that has another number leaves the answers as they are
-other_number : (o : Open) (f : Place → Bool) (t t' : Track) (m : Message) → t'.current ≡ t.current → eqb m.op.0 o.number ≡ false → Still o f t → Still o (λ p. answers_at o m true false p || f p) t'
+other_number : (o : Open) (f : Place → Bool) (t t' : Track) (m : Message) → t'.current ≡ t.current → eqb m.op.0 o.number.0 ≡ false → Still o f t → Still o (λ p. answers_at o m true false p || f p) t'
 other_number o f t t' m e other still =
-    same_answers o f _ t' (λ p. not_ours (eqb m.op.0 o.number) true (same_place p m.from) (not (is_reaction (is_write o.operation) m.body)) true (f p) other)
+    same_answers o f _ t' (λ p. not_ours (eqb m.op.0 o.number.0) true (same_place p m.from) (not (is_reaction (is_write o.operation) m.body)) true (f p) other)
     (same_current o f t t' e still)
 
 noted_still : (o : Open) (f : Place → Bool) (t : Track) (m : Message) (c : Option Open) → t.current ≡ c → Still o f t → Still o (λ p. answers_at o m true false p || f p) (noted t m c)
 noted_still o f t m None e still = absurd (none_open still.here (sym e ∙ still.is))
-noted_still o f t m (Some x) e still = by (eqb m.op.0 x.number) refl
+noted_still o f t m (Some x) e still = by (eqb m.op.0 x.number.0) refl
   where
     s : Said o f x
     s = said o f t x e still
 
-    by : (b : Bool) → eqb m.op.0 x.number ≡ b → Still o (λ p. answers_at o m true false p || f p) (cond b (reacts t x m (reaction_of (patch_of x.operation) m.body)) t)
+    by : (b : Bool) → eqb m.op.0 x.number.0 ≡ b → Still o (λ p. answers_at o m true false p || f p) (cond b (reacts t x m (reaction_of (patch_of x.operation) m.body)) t)
     by true ours =
-        reacts_still o f t m x (reaction_of (patch_of x.operation) m.body) e still (ap (eqb m.op.0) (sym s.number) ∙ ours)
+        reacts_still o f t m x (reaction_of (patch_of x.operation) m.body) e still (ap (λ (n : OpNo). eqb m.op.0 n.0) (sym s.number) ∙ ours)
         (ap (λ (q : Operation). is_reaction (is_write q) m.body) (sym s.operation) ∙ reaction_is (patch_of x.operation) m.body)
-    by false other = other_number o f t t m refl (ap (eqb m.op.0) (sym s.number) ∙ other) still
+    by false other = other_number o f t t m refl (ap (λ (n : OpNo). eqb m.op.0 n.0) (sym s.number) ∙ other) still
 
-numbers_apart : (t : Track) (x y : Open) → t.current ≡ Some x → healing_move t.healing ≡ Some y → Ordered t → x.number ≡ y.number → ⊥
+numbers_apart : (t : Track) (x y : Open) → t.current ≡ Some x → healing_move t.healing ≡ Some y → Ordered t → x.number.0 ≡ y.number.0 → ⊥
 numbers_apart t x y e f ordered =
-    let apart : Apart (Some x.number) (Some y.number) t.next = subst (λ (p : Option Open × Option Open). Apart (number_of p.0) (number_of p.1) t.next) (λ i. (e i, f i)) ordered in
+    let apart : Apart (Some x.number.0) (Some y.number.0) t.next = subst (λ (p : Option Open × Option Open). Apart (number_of p.0) (number_of p.1) t.next) (λ i. (e i, f i)) ordered in
     apart.2
 
 move_still : (o : Open) (f : Place → Bool) (t : Track) (m : Message) (h : Healing) (c : Option Open) → Ordered t → healing_move t.healing ≡ c → Still o f t → Still o (λ p. answers_at o m true false p || f p) (noted_by_move t m h c)
 move_still o f t m h None ordered e still = noted_still o f t m t.current refl still
-move_still o f t m h (Some x) ordered e still = by (eqb m.op.0 x.number) refl
+move_still o f t m h (Some x) ordered e still = by (eqb m.op.0 x.number.0) refl
   where
-    differ : eqb m.op.0 x.number ≡ true → m.op.0 ≡ o.number → ⊥
-    differ moves ours = numbers_apart t still.here x still.is e ordered (still.number ∙ sym ours ∙ eqb-true m.op.0 x.number moves)
+    differ : eqb m.op.0 x.number.0 ≡ true → m.op.0 ≡ o.number.0 → ⊥
+    differ moves ours = numbers_apart t still.here x still.is e ordered (ap (λ (n : OpNo). n.0) still.number ∙ sym ours ∙ eqb-true m.op.0 x.number.0 moves)
 
-    by : (b : Bool) → eqb m.op.0 x.number ≡ b → Still o (λ p. answers_at o m true false p || f p) (cond b (record t { healing = Some (record h { current = Some (answered x m) }) }) (noted t m t.current))
-    by true moves = other_number o f t _ m refl (differ_eqb m.op.0 o.number (differ moves)) still
+    by : (b : Bool) → eqb m.op.0 x.number.0 ≡ b → Still o (λ p. answers_at o m true false p || f p) (cond b (record t { healing = Some (record h { current = Some (answered x m) }) }) (noted t m t.current))
+    by true moves = other_number o f t _ m refl (differ_eqb m.op.0 o.number.0 (differ moves)) still
     by false other = noted_still o f t m t.current refl still
 
 with_still : (o : Open) (f : Place → Bool) (t : Track) (m : Message) (h : Option Healing) → Ordered t → t.healing ≡ h → Still o f t → Still o (λ p. answers_at o m true false p || f p) (noted_with t m h)
@@ -202,13 +212,13 @@ issuer_still o f t m ordered still = by (stops m.body)
   where
     by : (b : Bool) → Still o (λ p. answers_at o m true b p || f p) (cond b (record t { stopped = true }) (noted_with t m t.healing))
     by true =
-        same_answers o f _ _ (λ p. stop_is_none (eqb m.op.0 o.number) true (same_place p m.from) (not (is_reaction (is_write o.operation) m.body)) (f p))
+        same_answers o f _ _ (λ p. stop_is_none (eqb m.op.0 o.number.0) true (same_place p m.from) (not (is_reaction (is_write o.operation) m.body)) (f p))
         (same_current o f t _ refl still)
     by false = with_still o f t m t.healing ordered refl still
 
 not_to_issuer : (o : Open) (f : Place → Bool) (t t' : Track) (m : Message) → t'.current ≡ t.current → Still o f t → Still o (λ p. answers_at o m false (stops m.body) p || f p) t'
 not_to_issuer o f t t' m e still =
-    same_answers o f _ t' (λ p. no_issuer (eqb m.op.0 o.number) (same_place p m.from) (not (is_reaction (is_write o.operation) m.body)) (not (stops m.body)) (f p))
+    same_answers o f _ t' (λ p. no_issuer (eqb m.op.0 o.number.0) (same_place p m.from) (not (is_reaction (is_write o.operation) m.body)) (not (stops m.body)) (f p))
     (same_current o f t t' e still)
 
 handles_current : (t : Track) (i : ℕ) (m : Message) (s : Option Mem) → (memory_handles t i m s).current ≡ t.current
@@ -288,30 +298,30 @@ is_other_number a b e same = let no : not true ≡ true = ap not (sym (eq-eqb a 
 none_some : {X : Type 0} (x : X) → None ≡ Some x → ⊥
 none_some x e = cc e
 
-beside_still : (o : Open) (f : Place → Bool) (t : Track) (n : ℕ) (h : Healing) (c : Option Open) (x : Open) → c ≡ Some x → x.number ≡ n → Still o f t → Still o f (completed_beside t n h c)
+beside_still : (o : Open) (f : Place → Bool) (t : Track) (n : ℕ) (h : Healing) (c : Option Open) (x : Open) → c ≡ Some x → x.number.0 ≡ n → Still o f t → Still o f (completed_beside t n h c)
 beside_still o f t n h None x e same still = absurd (none_some x e)
 beside_still o f t n h (Some y) x e same still =
-    let number : eqb y.number n ≡ true = eq-eqb y.number n (ap (λ (o : Open). o.number) (same_some y x e) ∙ same) in
+    let number : eqb y.number.0 n ≡ true = eq-eqb y.number.0 n (ap (λ (o : Open). o.number.0) (same_some y x e) ∙ same) in
     subst (λ (b : Bool). Still o f (cond b (move_finished t h y h.moves) (finished t t.current))) (sym number) (move_finished_still o f t h y h.moves still)
 
-completed_still : (o : Open) (f : Place → Bool) (t : Track) (n : ℕ) (h : Option Healing) (x : Open) → healing_move h ≡ Some x → x.number ≡ n → Still o f t → Still o f (completed t n h)
+completed_still : (o : Open) (f : Place → Bool) (t : Track) (n : ℕ) (h : Option Healing) (x : Open) → healing_move h ≡ Some x → x.number.0 ≡ n → Still o f t → Still o f (completed t n h)
 completed_still o f t n None x e same still = absurd (none_some x e)
 completed_still o f t n (Some h) x e same still = beside_still o f t n h h.current x e same still
 
-other_completes : (o : Open) (f : Place → Bool) (t : Track) (n : ℕ) → first_done t ≡ Some n → (n ≡ o.number → ⊥) → Still o f t → Still o f (completed t n t.healing)
+other_completes : (o : Open) (f : Place → Bool) (t : Track) (n : OpNo) → first_done t ≡ Some n → (n.0 ≡ o.number.0 → ⊥) → Still o f t → Still o f (completed t n.0 t.healing)
 other_completes o f t n done differ still =
     let due = due_from t n done in
     elim due.1 [
-      | inl move ↦ completed_still o f t n t.healing due.0 move due.2 still
-      | inr current ↦ absurd (differ (sym due.2 ∙ (said o f t due.0 current still).number))
+      | inl move ↦ completed_still o f t n.0 t.healing due.0 move (ap (λ (n : OpNo). n.0) due.2) still
+      | inr current ↦ absurd (differ (ap (λ (n : OpNo). n.0) (sym due.2 ∙ (said o f t due.0 current still).number)))
     ]
 
 -- ALONG A LIST
 
 abbrev then_answered : Open → (Place → Bool) → Event → Place → Bool
-then_answered o f e p = answered_after o.number (is_write o.operation) p (f p) e
+then_answered o f e p = answered_after o.number.0 (is_write o.operation) p (f p) e
 
-after_still : (o : Open) (f : Place → Bool) (t : Track) (e : Event) (es : List Event) → Legal t (e ∷ es) → Ordered t → is_other o.number e ≡ true → Still o f t → Still o (then_answered o f e) (after t e)
+after_still : (o : Open) (f : Place → Bool) (t : Track) (e : Event) (es : List Event) → Legal t (e ∷ es) → Ordered t → is_other o.number.0 e ≡ true → Still o f t → Still o (then_answered o f e) (after t e)
 after_still o f t (Turn number pid) es legal ordered other still = same_current o f t _ refl still
 after_still o f t (Access cpu pid address kind bytes) es legal ordered other still = same_current o f t _ refl still
 after_still o f t (Fill pid address bytes) es legal ordered other still = same_current o f t _ refl still
@@ -319,7 +329,7 @@ after_still o f t (Drop cpu pid line) es legal ordered other still = same_curren
 after_still o f t (Send m) es legal ordered other still = sent_still o f t m t.owed t.healing t.current refl still
 after_still o f t (Deliver m) es legal ordered other still = comes_still o f (taken t) m m.to ordered (same_current o f t _ refl still)
 after_still o f t (Crash c inc) es legal ordered other still = crashed_still o f t c.0 still
-after_still o f t (Complete op) es legal ordered other still = other_completes o f t op.0 legal.0.complete (is_other_number op.0 o.number other) still
+after_still o f t (Complete op) es legal ordered other still = other_completes o f t op legal.0.complete (is_other_number op.0 o.number.0 other) still
 after_still o f t (Out stream bytes) es legal ordered other still = same_current o f t _ refl still
 
 first_is : (a b : Bool) → (a && b) ≡ true → a ≡ true
@@ -331,27 +341,27 @@ second_is true b e = e
 second_is false b e = cc e
 
 abbrev along : Open → (Place → Bool) → List Event → Place → Bool
-along o f es p = answered_along o.number (is_write o.operation) p (f p) es
+along o f es p = answered_along o.number.0 (is_write o.operation) p (f p) es
 
-still_along : (o : Open) (f : Place → Bool) (t : Track) (es : List Event) → Legal t es → Ordered t → is_uncompleted o.number es ≡ true → Still o f t → Still o (along o f es) (run t es)
+still_along : (o : Open) (f : Place → Bool) (t : Track) (es : List Event) → Legal t es → Ordered t → is_uncompleted o.number.0 es ≡ true → Still o f t → Still o (along o f es) (run t es)
 still_along o f t [] legal ordered other still = still
 still_along o f t (e ∷ es) legal ordered other still =
     still_along o (then_answered o f e) (after t e) es legal.1
     (after_ordered t e es legal ordered)
-    (second_is (is_other o.number e) (is_uncompleted o.number es) other)
-    (after_still o f t e es legal ordered (first_is (is_other o.number e) (is_uncompleted o.number es) other) still)
+    (second_is (is_other o.number.0 e) (is_uncompleted o.number.0 es) other)
+    (after_still o f t e es legal ordered (first_is (is_other o.number.0 e) (is_uncompleted o.number.0 es) other) still)
 
 -- THE COMPLETION by the list
 
-targets_along : (o : Open) (es : List Event) (targets : List Place) (answers : List Answer) → ((p : Place) → has_answered p answers ≡ along o (λ p. false) es p) → all_answered targets answers ≡ all_answered_in o.number (is_write o.operation) targets es
+targets_along : (o : Open) (es : List Event) (targets : List Place) (answers : List Answer) → ((p : Place) → has_answered p answers ≡ along o (λ p. false) es p) → all_answered targets answers ≡ all_answered_in o.number.0 (is_write o.operation) targets es
 targets_along o es [] answers e = refl
 targets_along o es (p ∷ targets) answers e = λ i. e p i && targets_along o es targets answers e i
 
-complete_along : (o : Open) (es : List Event) (x : Open) (net net' : List Message) → Said o (along o (λ p. false) es) x → net ≡ net' → is_complete net x ≡ is_complete_in o.number (is_write o.operation) o.targets es net'
+complete_along : (o : Open) (es : List Event) (x : Open) (net net' : List Message) → Said o (along o (λ p. false) es) x → net ≡ net' → is_complete net x ≡ is_complete_in o.number.0 (is_write o.operation) o.targets es net'
 complete_along o es x net net' s e =
-    let targets : all_answered x.targets x.answers ≡ all_answered_in o.number (is_write o.operation) o.targets es =
-    targets_along o es x.targets x.answers s.answers ∙ ap (λ (ps : List Place). all_answered_in o.number (is_write o.operation) ps es) s.targets in
-    λ i. targets i && not (is_pending (s.number i) (e i))
+    let targets : all_answered x.targets x.answers ≡ all_answered_in o.number.0 (is_write o.operation) o.targets es =
+    targets_along o es x.targets x.answers s.answers ∙ ap (λ (ps : List Place). all_answered_in o.number.0 (is_write o.operation) ps es) s.targets in
+    λ i. targets i && not (is_pending (s.number i).0 (e i))
 
 pub completions-are-by-the-list : CompletionsAreByTheList
 completions-are-by-the-list shape due before es fs o op legal here none number other =
@@ -364,10 +374,10 @@ completions-are-by-the-list shape due before es fs o op legal here none number o
     let ordered : Ordered t = ordered_along t0 before front tt in
     let still : Still o (λ p. false) t = record { here = o; is = here; number = refl; operation = refl; targets = refl; answers = λ p. ap (has_answered p) none } in
     let at_end : Still o (along o (λ p. false) es) (run t es) = still_along o (λ p. false) t es middle ordered other still in
-    let due_there = due_from (run t es) op.0 last.0.complete in
+    let due_there = due_from (run t es) op last.0.complete in
     let whole : Legal t0 (before ++ es) = Legal-append t0 before es front middle in
     let net : (run t es).net ≡ pending_of shape.deliveries (before ++ es) = ap (λ (t : Track). t.net) (sym (run-append t0 before es)) ∙ net_along t0 (before ++ es) whole in
     elim due_there.1 [
-      | inl move ↦ absurd (numbers_apart (run t es) at_end.here due_there.0 at_end.is move (ordered_along t es middle ordered) (at_end.number ∙ sym number ∙ sym due_there.2))
+      | inl move ↦ absurd (numbers_apart (run t es) at_end.here due_there.0 at_end.is move (ordered_along t es middle ordered) (ap (λ (n : OpNo). n.0) (at_end.number ∙ sym number ∙ sym due_there.2)))
       | inr current ↦ sym (complete_along o es due_there.0 _ _ (said o (along o (λ p. false) es) (run t es) due_there.0 current at_end) net) ∙ due_there.3
     ]

@@ -1,6 +1,5 @@
+pub mod Clones
 pub mod ShownLaws
-mod Rows
-mod CacheRows
 pub mod Lists
 pub mod Flow
 pub mod Senders
@@ -9,8 +8,8 @@ pub mod Numbers
 pub mod Judging
 pub mod Shows
 pub mod Single
-pub mod Resting
 pub mod Coming
-mod MoreRows
 pub mod Going
 pub mod Issuing
+pub mod Rows
+mod MoreRows

@@ -1,10 +1,10 @@
 -- Legal lists cut and joined.
-use Rattle.std.proofs.Common.{◌≡◌, List, [], ◌∷◌, ◌++◌, refl}
-use Rattle.lego_msg.specs.declared.event.Event.{Event}
-use Rattle.lego_msg.specs.Track.{Track}
-use Rattle.lego_msg.specs.Run.{after, run}
-use Rattle.lego_msg.specs.Legal.{Legal}
+use Rattle.std.proofs.Common.{◌≡◌, [], ◌∷◌, ◌++◌, List, refl}
 use Rattle.lego_msg.specs.Laws.{CutAndJoined}
+use Rattle.lego_msg.specs.Legal.{Legal}
+use Rattle.lego_msg.specs.Run.{after, run}
+use Rattle.lego_msg.specs.Track.{Track}
+use Rattle.lego_msg.specs.declared.event.Event.{Event}
 
 pub run-append : (t : Track) (es fs : List Event) → run t (es ++ fs) ≡ run (run t es) fs
 run-append t [] fs = refl

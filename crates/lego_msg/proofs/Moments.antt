@@ -1,22 +1,29 @@
--- Where completions and crashes stand.
-use Rattle.std.proofs.Common.{◌≡◌, ◌⊎◌, inl, inr, ℕ, ◌+◌, Bool, true, false, cond, not, ◌&&◌, ◌||◌, eqb, List, [], ◌∷◌, Option, Some, None, refl, sym, ◌∙◌, subst, slice_get}
+-- Where completions and crashes come.
+use Rattle.std.proofs.Common.{◌≡◌, ◌⊎◌, ◌+◌, ◌&&◌, ◌||◌, [], ◌∷◌, ◌∙◌, ℕ, Bool, List, None, Option, Some, cond, eqb, false, inl, inr, not, refl, slice_get, subst, sym, true}
 use Rattle.std.proofs.lemmas.Bool.{eqb-true}
 use Rattle.lego_base.specs.declared.ids.MemId.{MemId}
 use Rattle.lego_base.specs.declared.ids.OpNo.{OpNo}
-use Rattle.lego_base.specs.declared.shape.Shape.{Shape}
 use Rattle.lego_base.specs.declared.shape.CrashAt.{CrashAt}
-use Rattle.lego_msg.specs.declared.message.Message.{Message}
-use Rattle.lego_msg.specs.declared.event.Event.{Event}
-use Rattle.lego_msg.specs.declared.event.Event.TheVariants.{Turn, Access, Fill, Drop, Send, Deliver, Crash, Complete, Out}
-use Rattle.lego_msg.specs.State.{Mem}
-use Rattle.lego_msg.specs.Track.{Open, Healing, Clock, Track, start, is_complete, is_done, healing_move, is_any_done, next_crash, is_now, is_of_turn, is_crash_due}
-use Rattle.lego_msg.specs.Run.{taken, after, run}
-use Rattle.lego_msg.specs.Marks.{is_turn_end}
-use Rattle.lego_msg.specs.Legal.{is_calm, done_or, first_done, is_idle, next_due, IsEntry, IsNextInc, MaySend, Legal}
-use Rattle.lego_msg.specs.Laws.{IsOpen, CompletionsAreDue, CompletionsAreFirst, clock_along, IsTurnOver, IsMoment, CrashesStandAtTheirMoment, CrashesAreDue, memory_along}
-use Rattle.lego_msg.proofs.Lists.{Legal-front, Legal-back}
-use Rattle.lego_msg.proofs.Flow.{comes_came, send_sent, completed_same}
+use Rattle.lego_base.specs.declared.shape.Shape.{Shape}
+use Rattle.lego_msg.proofs.Flow.{comes_arrived, completed_same, send_sent}
+use Rattle.lego_msg.proofs.Lists.{Legal-back, Legal-front}
 use Rattle.lego_msg.proofs.Senders.{mem_along, same_some}
+use Rattle.lego_msg.specs.Completions.{done_or, first_done}
+use Rattle.lego_msg.specs.Crashes.{IsEntry, IsNextInc, is_idle}
+use Rattle.lego_msg.specs.Deliveries.{taken}
+use Rattle.lego_msg.specs.Laws.{CompletionsAreDue, CompletionsAreFirst, CrashesAreDue, CrashesStandAtTheirMoment, IsMoment, IsOpen, IsTurnOver, clock_along, memory_along}
+use Rattle.lego_msg.specs.Legal.{Legal}
+use Rattle.lego_msg.specs.Marks.{is_turn_end}
+use Rattle.lego_msg.specs.Run.{after, run}
+use Rattle.lego_msg.specs.Sends.{MaySend}
+use Rattle.lego_msg.specs.State.{Mem}
+use Rattle.lego_msg.specs.Track.{Track, healing_move, is_any_done, is_calm, is_complete, is_crash_due, is_done, is_now, is_of_turn, next_crash, start}
+use Rattle.lego_msg.specs.declared.clock.Clock.{Clock}
+use Rattle.lego_msg.specs.declared.event.Event.{Event}
+use Rattle.lego_msg.specs.declared.event.Event.TheVariants.{Access, Complete, Crash, Deliver, Drop, Fill, Out, Send, Turn}
+use Rattle.lego_msg.specs.declared.healing.Healing.{Healing}
+use Rattle.lego_msg.specs.declared.message.Message.{Message}
+use Rattle.lego_msg.specs.declared.operation.Open.{Open}
 
 -- CALM: nothing else has to come first
 
@@ -50,7 +57,7 @@ send_calm t m [] None (Some o) e may = may.0
 send_calm t m [] None None e may = may.0
 
 -- an operation that is done is open and complete
-done_one : (net : List Message) (o : Option Open) (else_ : Option ℕ) (n : ℕ) → done_or net o else_ ≡ Some n → ((x : Open) × (o ≡ Some x) × (x.number ≡ n) × (is_complete net x ≡ true)) ⊎ (else_ ≡ Some n)
+done_one : (net : List Message) (o : Option Open) (else_ : Option OpNo) (n : OpNo) → done_or net o else_ ≡ Some n → ((x : Open) × (o ≡ Some x) × (x.number ≡ n) × (is_complete net x ≡ true)) ⊎ (else_ ≡ Some n)
 done_one net None else_ n e = inr e
 done_one net (Some x) else_ n e = by (is_complete net x) refl e
   where
@@ -58,10 +65,10 @@ done_one net (Some x) else_ n e = by (is_complete net x) refl e
     by true is e = inl (x, refl, same_some x.number n e, is)
     by false is e = inr e
 
-none_some : (n : ℕ) → None ≡ Some n → ⊥
+none_some : (n : OpNo) → None ≡ Some n → ⊥
 none_some n e = cc e
 
-pub due_from : (t : Track) (n : ℕ) → first_done t ≡ Some n → (o : Open) × IsOpen t o × (o.number ≡ n) × (is_complete t.net o ≡ true)
+pub due_from : (t : Track) (n : OpNo) → first_done t ≡ Some n → (o : Open) × IsOpen t o × (o.number ≡ n) × (is_complete t.net o ≡ true)
 due_from t n e =
     elim (done_one t.net (healing_move t.healing) (done_or t.net t.current None) n e) [
       | inl there ↦ (there.0, inl there.1, there.2, there.3)
@@ -83,7 +90,7 @@ right_true : (a b : Bool) → b ≡ true → (a || b) ≡ true
 right_true true b e = refl
 right_true false b e = e
 
-pub any_done : (t : Track) (n : ℕ) → first_done t ≡ Some n → is_any_done t ≡ true
+pub any_done : (t : Track) (n : OpNo) → first_done t ≡ Some n → is_any_done t ≡ true
 any_done t n e =
     let due = due_from t n e in
     elim due.1 [
@@ -105,7 +112,7 @@ comes_how t (Drop cpu pid line) fs owed legal = calmly legal.0.0.0.calm
 comes_how t (Send m) fs owed legal = calmly (send_calm t m t.owed t.healing t.current owed legal.0)
 comes_how t (Deliver m) fs owed legal = calmly legal.0.calm
 comes_how t (Crash c inc) fs owed legal = crashes c inc refl (not_done t.stopped (is_any_done t) legal.0.goes_on)
-comes_how t (Complete op) fs owed legal = completes op refl (any_done t op.0 legal.0.complete)
+comes_how t (Complete op) fs owed legal = completes op refl (any_done t op legal.0.complete)
 comes_how t (Out stream bytes) fs owed legal = calmly legal.0.0.calm
 
 completion_first : (t : Track) (e : Event) → is_any_done t ≡ true → Comes t e → (op : OpNo) × (e ≡ Complete op)
@@ -117,7 +124,7 @@ pub completions-are-first : CompletionsAreFirst
 completions-are-first t es fs e legal owed done = completion_first (run t es) e done (comes_how (run t es) e fs owed (Legal-back t es (e ∷ fs) legal))
 
 pub completions-are-due : CompletionsAreDue
-completions-are-due t es fs op legal = due_from (run t es) op.0 (Legal-back t es (Complete op ∷ fs) legal).0.complete
+completions-are-due t es fs op legal = due_from (run t es) op (Legal-back t es (Complete op ∷ fs) legal).0.complete
 
 crash_first : (t : Track) (e : Event) → is_any_done t ≡ false → is_crash_due t ≡ true → Comes t e → (c : MemId) × (inc : ℕ) × (e ≡ Crash c inc)
 crash_first t e none due (completes op is some) = absurd (both_ways _ some none)
@@ -142,7 +149,7 @@ clock_is t (Send m ∷ es) legal =
     let s = send_sent t m t.owed t.healing t.current legal.0 in
     clock_is (after t (Send m)) es legal.1 ∙ clocks _ _ _ _ es s.shape s.clock
 clock_is t (Deliver m ∷ es) legal =
-    let s = comes_came (taken t) m m.to in
+    let s = comes_arrived (taken t) m m.to in
     clock_is (after t (Deliver m)) es legal.1 ∙ clocks _ _ _ _ es s.shape s.clock
 clock_is t (Crash number inc ∷ es) legal = clock_is (after t (Crash number inc)) es legal.1
 clock_is t (Complete op ∷ es) legal =
@@ -163,10 +170,10 @@ or_over : (t : Track) (after since : ℕ) → (eqb after since ≡ true) ⊎ IsT
 or_over t after since (inl e) = inl (eqb-true after since e)
 or_over t after since (inr over) = inr over
 
-moment_of : (t : Track) (o : Option CrashAt) (number : ℕ) → next_crash t.shape t.clock ≡ o → IsEntry o number → (is_now t.clock o || (is_of_turn t.clock o && is_idle t.healing t.current && is_turn_end (next_due t))) ≡ true → IsMoment t t.clock number
+moment_of : (t : Track) (o : Option CrashAt) (number : ℕ) → next_crash t.shape t.clock ≡ o → IsEntry o number → (is_now t.clock o || (is_of_turn t.clock o && is_idle t.healing t.current && is_turn_end t.due)) ≡ true → IsMoment t t.clock number
 moment_of t None number is entry moment = absurd entry
 moment_of t (Some e) number is entry moment =
-    let p = parts t.clock.begun (eqb e.turn t.clock.turn) (eqb e.after t.clock.since) (is_idle t.healing t.current) (is_turn_end (next_due t)) moment in
+    let p = parts t.clock.begun (eqb e.turn t.clock.turn) (eqb e.after t.clock.since) (is_idle t.healing t.current) (is_turn_end t.due) moment in
     record {
       entry = e;
       is = is;

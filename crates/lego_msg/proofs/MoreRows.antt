@@ -1,26 +1,26 @@
 -- More worked lists, by computation: files, a fork and the end of a space, the loss of an owner, askings for areas.
-use Rattle.std.proofs.Common.{◌≡◌, ℕ, List, [], ◌∷◌, drop, Option, Some, None, codes, refl, slice_get}
-use Rattle.lego_base.specs.declared.ids.Pid.{Pid}
+use Rattle.std.proofs.Common.{◌≡◌, [], ◌∷◌, ℕ, List, None, Option, Some, codes, drop, refl, slice_get}
+use Rattle.lego_base.specs.Files.{file_bytes}
+use Rattle.lego_base.specs.Keys.{find, key_at}
 use Rattle.lego_base.specs.declared.ids.FileNo.{FileNo}
+use Rattle.lego_base.specs.declared.ids.Pid.{Pid}
 use Rattle.lego_base.specs.declared.records.Area.{Area}
 use Rattle.lego_base.specs.declared.records.PageImage.{PageImage}
-use Rattle.lego_msg.specs.declared.place.Place.TheVariants.{Storage, Manager}
-use Rattle.lego_msg.specs.declared.body.Body.TheVariants.{GetAreas}
-use Rattle.lego_msg.specs.declared.message.Message.{Message}
-use Rattle.lego_msg.specs.declared.event.Event.{Event}
-use Rattle.lego_msg.specs.declared.event.Event.TheVariants.{Turn, Send, Out}
-use Rattle.lego_msg.specs.Places.{memory}
-use Rattle.lego_msg.specs.Maps.{key_at, page_key, find, areas_at}
-use Rattle.lego_msg.specs.Files.{bytes_of}
-use Rattle.lego_msg.specs.State.{Mem}
-use Rattle.lego_msg.specs.Operations.{SetsHome, Drains, Unmaps, Copies, Drops, ReadsFile, WritesFile, CutsFile, AsksSize, MakesName}
-use Rattle.lego_msg.specs.Marks.{Mark, Call, Show, Asking, order}
-use Rattle.lego_msg.specs.Track.{Track, start}
-use Rattle.lego_msg.specs.Run.{after, run}
-use Rattle.lego_msg.specs.Legal.{May, Legal}
-use Rattle.lego_msg.specs.Next.{next, played}
 use Rattle.lego_msg.proofs.Coming.{played-is-legal}
-use Rattle.lego_msg.proofs.Rows.{send, deliver, complete, briefs, pid1, cpu0, mem, region, home, code_areas, two, map_marks, fill_marks, one_fill, crash_after}
+use Rattle.lego_msg.proofs.Rows.{briefs, code_areas, complete, cpu0, crash_after, deliver, fill_marks, home, map_marks, mem, one_fill, other, pid1, region, send, turn, two}
+use Rattle.lego_msg.specs.Legal.{Legal, May}
+use Rattle.lego_msg.specs.Maps.{areas_at, page_key}
+use Rattle.lego_msg.specs.Marks.{Call, Mark, Show, order}
+use Rattle.lego_msg.specs.Next.{next, played}
+use Rattle.lego_msg.specs.Places.{memory}
+use Rattle.lego_msg.specs.Plain.{byte_at}
+use Rattle.lego_msg.specs.Run.{run}
+use Rattle.lego_msg.specs.State.{Mem}
+use Rattle.lego_msg.specs.Track.{Track, start}
+use Rattle.lego_msg.specs.declared.event.Event.{Event}
+use Rattle.lego_msg.specs.declared.event.Event.TheVariants.{Out, Turn}
+use Rattle.lego_msg.specs.declared.operation.Operation.TheVariants.{AsksAreas, AsksSize, Copies, CutsFile, Drains, Drops, MakesName, ReadsFile, SetsHome, Unmaps, WritesFile}
+use Rattle.lego_msg.specs.declared.place.Place.TheVariants.{Manager, Storage}
 
 -- FILES: a file is made and written, read twice, cut, and goes
 
@@ -79,10 +79,10 @@ legal_files : Legal filing (played 60 filing)
 legal_files = played-is-legal 60 filing refl
 
 -- the file has one byte, at storage and in the plain map
-stored_byte : bytes_of filed.disk.files.files 0 ≡ codes "h"
+stored_byte : file_bytes filed.disk.files.files 0 ≡ codes "h"
 stored_byte = refl
 
-one_byte : bytes_of filed.plain.files.files 0 ≡ codes "h"
+one_byte : file_bytes filed.plain.files.files 0 ≡ codes "h"
 one_byte = refl
 
 -- A FORK, an unmapping and the end of a space: process 2 is the child of process 1
@@ -126,7 +126,7 @@ lists_of None pid = []
 lists_of (Some s) pid = areas_at s.main.areas pid 0
 
 -- the child has the parent's page and areas: in the plain map, at the owner, and at storage
-child_byte : (ended_with (fork_marks [])).plain.byte 2 0x10000 ≡ 7
+child_byte : byte_at (ended_with (fork_marks [])).plain 2 0x10000 ≡ 7
 child_byte = refl
 
 child_page : first_byte (slice_get (ended_with (fork_marks [])).mems 0) 2 ≡ Some 7
@@ -142,7 +142,7 @@ child_areas = refl
 parent_unmapped : first_byte (slice_get (ended_with (fork_marks (unmap_marks []))).mems 0) 1 ≡ None
 parent_unmapped = refl
 
-parent_reads_zero : (ended_with (fork_marks (unmap_marks []))).plain.byte 1 0x10000 ≡ 0
+parent_reads_zero : byte_at (ended_with (fork_marks (unmap_marks []))).plain 1 0x10000 ≡ 0
 parent_reads_zero = refl
 
 child_stays : image_byte (ended_with (fork_marks (unmap_marks []))) 2 ≡ Some 7
@@ -178,36 +178,25 @@ healing_ends = refl
 legal_owner_lost : Legal owner_lost (played 150 owner_lost)
 legal_owner_lost = played-is-legal 150 owner_lost refl
 
--- ASKINGS: the region's areas must be asked for before the output
+-- ASKINGS: the region's areas are asked for before the output
 
 abbrev hello : Event
 hello = Out 1 (codes "hi")
 
-abbrev asking_start : Track
-asking_start = start (two (0 ∷ []) []) (map_marks (Show (Turn 1 pid1) ∷ Asking cpu0 pid1 (key_at 1 0 ∷ []) ∷ Show hello ∷ []))
+abbrev asking : Track
+asking = start (two (0 ∷ []) []) (map_marks (Show (Turn 1 pid1) ∷ Call (order cpu0 (AsksAreas pid1 (region 0) (mem 0))) ∷ Show hello ∷ []))
 
--- the list stands still before the asking, which the code has to choose
-abbrev stands : Track
-stands = run asking_start (played 40 asking_start)
+asked : drop 19 (briefs (played 40 asking)) ≡
+    turn 1
+    ∷ send 3 cpu0 (memory 0) (codes "GetAreas")
+    ∷ deliver 3 cpu0 (memory 0) (codes "GetAreas")
+    ∷ send 3 (memory 0) cpu0 (codes "AreasAre")
+    ∷ deliver 3 (memory 0) cpu0 (codes "AreasAre")
+    ∷ complete 3
+    ∷ other
+    ∷ []
+asked = refl
 
-stands_still : next stands ≡ None
-stands_still = refl
-
-abbrev get_areas : Message
-get_areas = record { from = cpu0; to = memory 0; op = record { 0 = 3 }; body = GetAreas pid1 (region 0) }
-
-may_ask : May stands (Send get_areas)
-may_ask = (refl, (refl, tt, refl, refl))
-
-not_before : May stands hello → ⊥
+-- the output doesn't come before
+not_before : May (run asking (played 20 asking)) hello → ⊥
 not_before may = may.1
-
--- and then the output may come, and the areas may be asked for once more
-abbrev asked_once : Track
-asked_once = run (after stands (Send get_areas)) (played 4 (after stands (Send get_areas)))
-
-may_go_on : May asked_once hello
-may_go_on = (record { owed = refl; closed = refl; healed = refl; calm = refl }, refl)
-
-may_ask_again : May asked_once (Send (record get_areas { op = record { 0 = 4 } }))
-may_ask_again = (refl, (refl, tt, refl, refl))

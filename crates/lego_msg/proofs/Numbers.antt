@@ -1,21 +1,28 @@
 -- The open operation and the move of a healing have numbers below the next one, and not the same.
-use Rattle.std.proofs.Common.{◌≡◌, ℕ, ◌+◌, ◌<◌, Bool, true, false, cond, eqb, List, [], ◌∷◌, Option, Some, None, refl, sym, ◌∙◌, ap, subst, slice_get, arith}
-use Rattle.lego_msg.specs.declared.place.Place.{Place}
-use Rattle.lego_msg.specs.declared.place.Place.TheVariants.{Processor, Memory, Storage, Manager}
-use Rattle.lego_msg.specs.declared.body.Body.{Body}
-use Rattle.lego_msg.specs.declared.message.Message.{Message}
-use Rattle.lego_msg.specs.declared.event.Event.{Event}
-use Rattle.lego_msg.specs.declared.event.Event.TheVariants.{Turn, Access, Fill, Drop, Send, Deliver, Crash, Complete, Out}
-use Rattle.lego_msg.specs.State.{Mem}
-use Rattle.lego_msg.specs.Healing.{Move}
+use Rattle.std.proofs.Common.{◌≡◌, ◌+◌, ◌<◌, [], ◌∷◌, ◌∙◌, ℕ, Bool, List, None, Option, Some, ap, arith, cond, eqb, false, refl, slice_get, subst, sym, true}
+use Rattle.lego_msg.specs.Completions.{completed, completed_beside, finished, move_finished, sent_again}
+use Rattle.lego_msg.specs.Crashes.{forgotten}
+use Rattle.lego_msg.specs.Deliveries.{answered, comes, issuer_gets, memory_handles, noted, noted_by_move, noted_with, reaction_of, reacts, stops, taken}
+use Rattle.lego_msg.specs.Legal.{Legal}
+use Rattle.lego_msg.specs.Marks.{Call, Mark, Show}
 use Rattle.lego_msg.specs.Operations.{patch_of}
-use Rattle.lego_msg.specs.Track.{Open, Healing, Track, healing_move}
-use Rattle.lego_msg.specs.Run.{Begin, begun, begins_with, move_begins, sent, taken, memory_handles, stops, reaction_of, reacts, answered, noted, noted_by_move, noted_with, issuer_gets, comes, finished, sent_again, forgotten, move_finished, completed_beside, completed, after, run}
-use Rattle.lego_msg.specs.Legal.{MayBegin, IsMove, MaySend, Legal}
+use Rattle.lego_msg.specs.Run.{after, run}
+use Rattle.lego_msg.specs.Sends.{IsMove, MayBegin, MaySend, begins, move_begins, sent}
+use Rattle.lego_msg.specs.State.{Mem, kept}
+use Rattle.lego_msg.specs.Track.{Track, healing_move}
+use Rattle.lego_msg.specs.declared.body.Body.{Body}
+use Rattle.lego_msg.specs.declared.event.Event.{Event}
+use Rattle.lego_msg.specs.declared.event.Event.TheVariants.{Access, Complete, Crash, Deliver, Drop, Fill, Out, Send, Turn}
+use Rattle.lego_msg.specs.declared.healing.Healing.{Healing}
+use Rattle.lego_msg.specs.declared.healing.Move.{Move}
+use Rattle.lego_msg.specs.declared.message.Message.{Message}
+use Rattle.lego_msg.specs.declared.operation.Open.{Open}
+use Rattle.lego_msg.specs.declared.place.Place.{Place}
+use Rattle.lego_msg.specs.declared.place.Place.TheVariants.{Manager, Memory, Processor, Storage}
 
 abbrev pub number_of : Option Open → Option ℕ
 number_of None = None
-number_of (Some o) = Some o.number
+number_of (Some o) = Some o.number.0
 
 abbrev pub Apart : Option ℕ → Option ℕ → ℕ → Type 0
 Apart None None n = Unit {0}
@@ -80,7 +87,7 @@ answer_kept t h o m e f =
 
 move_kept : (t : Track) (m : Message) (h : Healing) (o : Option Open) → t.healing ≡ Some h → h.current ≡ o → Kept t (noted_by_move t m h o)
 move_kept t m h None e f = noted_kept t m t.current refl
-move_kept t m h (Some o) e f = either_kept t (with_answer t h o m) (noted t m t.current) (eqb m.op.0 o.number) (answer_kept t h o m e f) (noted_kept t m t.current refl)
+move_kept t m h (Some o) e f = either_kept t (with_answer t h o m) (noted t m t.current) (eqb m.op.0 o.number.0) (answer_kept t h o m e f) (noted_kept t m t.current refl)
 
 with_kept : (t : Track) (m : Message) (h : Option Healing) → t.healing ≡ h → Kept t (noted_with t m h)
 with_kept t m None e = noted_kept t m t.current refl
@@ -101,9 +108,10 @@ comes_kept t m Manager = issuer_kept t m
 
 -- OTHER NUMBERS
 
-begins_apart : (t : Track) (m : Message) (b : Option Begin) → t.healing ≡ None → MayBegin t m b → Ordered (begins_with t m b)
-begins_apart t m None e may = absurd may
-begins_apart t m (Some b) e may = subst (λ (h : Option Healing). Apart (Some t.next) (number_of (healing_move h)) (t.next + 1)) (sym e) (new_current t.next)
+begins_apart : (t : Track) (m : Message) (due : List Mark) → t.healing ≡ None → MayBegin t m due → Ordered (begins t m due)
+begins_apart t m [] e may = absurd may
+begins_apart t m (Show x ∷ due) e may = absurd may
+begins_apart t m (Call o ∷ due) e may = subst (λ (h : Option Healing). Apart (Some t.next) (number_of (healing_move h)) (t.next + 1)) (sym e) (new_current t.next)
 
 move_apart : (t : Track) (m : Message) (h : Healing) (o : Option Open) (moves : List Move) → IsMove t m h o moves → Apart (number_of t.current) (number_of o) t.next → Ordered (move_begins t m h moves)
 move_apart t m h (Some o) moves may apart = absurd may
@@ -114,7 +122,7 @@ sent_apart : (t : Track) (m : Message) (owed : List Message) (h : Option Healing
 sent_apart t m (x ∷ owed) h o e f may ordered = ordered
 sent_apart t m [] (Some h) o e f may ordered = move_apart t m h h.current h.moves may.1 (subst (λ (h : Option Healing). Apart (number_of t.current) (number_of (healing_move h)) t.next) e ordered)
 sent_apart t m [] None (Some o) e f may ordered = subst (λ (o : Option Open). Apart (number_of o) (number_of (healing_move t.healing)) t.next) f ordered
-sent_apart t m [] None None e f may ordered = begins_apart t m (begun t m.body t.due) e may.1
+sent_apart t m [] None None e f may ordered = begins_apart t m t.due e may.1
 
 forgotten_number : (p : Place) (o : Option Open) → number_of (forgotten p o) ≡ number_of o
 forgotten_number p None = refl
@@ -138,7 +146,7 @@ either_apart x y false p q = q
 
 beside_apart : (t : Track) (n : ℕ) (h : Healing) (o : Option Open) → Ordered t → Ordered (completed_beside t n h o)
 beside_apart t n h None ordered = finished_apart t t.current refl ordered
-beside_apart t n h (Some o) ordered = either_apart _ _ (eqb o.number n) (move_finished_apart t h o h.moves ordered) (finished_apart t t.current refl ordered)
+beside_apart t n h (Some o) ordered = either_apart _ _ (eqb o.number.0 n) (move_finished_apart t h o h.moves ordered) (finished_apart t t.current refl ordered)
 
 completed_apart : (t : Track) (n : ℕ) (h : Option Healing) → Ordered t → Ordered (completed t n h)
 completed_apart t n None ordered = finished_apart t t.current refl ordered

@@ -1,30 +1,33 @@
 -- Worked lists, by computation.
-use Rattle.std.proofs.Common.{◌≡◌, ℕ, ◌+◌, ◌*◌, true, false, List, [], ◌∷◌, ◌++◌, length, drop, replicate, Option, Some, None, codes, refl, ap, arith}
-use Rattle.lego_base.specs.declared.shape.Shape.{Shape}
-use Rattle.lego_base.specs.declared.shape.CrashAt.{CrashAt}
-use Rattle.lego_base.specs.declared.ids.Pid.{Pid}
+use Rattle.std.proofs.Common.{◌≡◌, ◌+◌, ◌*◌, [], ◌∷◌, ◌++◌, ℕ, List, None, Option, Some, ap, arith, codes, drop, false, length, refl, replicate, true}
 use Rattle.lego_base.specs.declared.ids.MemId.{MemId}
+use Rattle.lego_base.specs.declared.ids.OpNo.{OpNo}
+use Rattle.lego_base.specs.declared.ids.Pid.{Pid}
 use Rattle.lego_base.specs.declared.ids.RegionNo.{RegionNo}
 use Rattle.lego_base.specs.declared.records.Area.{Area}
-use Rattle.lego_base.specs.declared.records.Patch.{Patch}
 use Rattle.lego_base.specs.declared.records.HomeEntry.{HomeEntry}
-use Rattle.lego_msg.specs.declared.place.Place.{Place}
-use Rattle.lego_msg.specs.declared.place.Place.TheVariants.{Processor, Storage, Manager}
-use Rattle.lego_base.specs.declared.ids.OpNo.{OpNo}
-use Rattle.lego_msg.specs.declared.body.Body.TheVariants as body
-use Rattle.lego_msg.specs.declared.message.Message.{Message}
-use Rattle.lego_msg.specs.declared.event.Event.{Event}
-use Rattle.lego_msg.specs.declared.event.Event.TheVariants.{Turn, Access, Fill, Drop, Send, Deliver, Crash, Complete, Out}
-use Rattle.lego_msg.specs.declared.event.Kind.TheVariants.{Fetch}
-use Rattle.lego_msg.specs.Kinds.{kind_of}
-use Rattle.lego_msg.specs.Places.{memory}
-use Rattle.lego_msg.specs.Operations.{Finds, Reads, WritesFill, SetsHome, SetsAreas}
-use Rattle.lego_msg.specs.Marks.{Mark, Call, Show, order}
-use Rattle.lego_msg.specs.Track.{Track, start}
-use Rattle.lego_msg.specs.Run.{run}
-use Rattle.lego_msg.specs.Legal.{May, Legal}
-use Rattle.lego_msg.specs.Next.{next, played}
+use Rattle.lego_base.specs.declared.records.Patch.{Patch}
+use Rattle.lego_base.specs.declared.shape.CrashAt.{CrashAt}
+use Rattle.lego_base.specs.declared.shape.Shape.{Shape}
 use Rattle.lego_msg.proofs.Coming.{played-is-legal}
+use Rattle.lego_msg.specs.Kinds.{kind_of}
+use Rattle.lego_msg.specs.Legal.{Legal, May}
+use Rattle.lego_msg.specs.Marks.{Call, Mark, Show, order}
+use Rattle.lego_msg.specs.Next.{next, played}
+use Rattle.lego_msg.specs.Places.{memory}
+use Rattle.lego_msg.specs.Plain.{byte_at}
+use Rattle.lego_msg.specs.Run.{run}
+use Rattle.lego_msg.specs.Track.{Track, start}
+use Rattle.lego_msg.specs.declared.body.Body.TheVariants.{BackedUp, Backup, Done, Drain, Drained, Find, Images, Line, LogFull, LogWrite, Meta, OwnerIs, PullMeta, PullPages, PushMeta, Read, ResetImages, Write, Wrote}
+use Rattle.lego_msg.specs.declared.event.Event.{Event}
+use Rattle.lego_msg.specs.declared.event.Event.TheVariants.{Access, Complete, Crash, Deliver, Drop, Fill, Out, Send, Turn}
+use Rattle.lego_msg.specs.declared.event.Kind.TheVariants.{Fetch}
+use Rattle.lego_msg.specs.declared.message.Message.{Message}
+use Rattle.lego_msg.specs.declared.operation.Operation.TheVariants.{Finds, Reads, SetsAreas, SetsHome, Writes}
+use Rattle.lego_msg.specs.declared.place.Place.{Place}
+use Rattle.lego_msg.specs.declared.place.Place.TheVariants.{Manager, Processor, Storage}
+use Rattle.lego_msg.specs.declared.body.Body.TheVariants as body
+use Rattle.lego_msg.specs.declared.operation.Origin.TheVariants as origin
 
 -- a message in an event, as a trace has it
 pub data Brief : Type 0 where
@@ -107,9 +110,9 @@ boot_marks =
     ∷ Call (order Manager (SetsAreas pid1 (region 0) code_areas (mem 0)))
     ∷ Call (order Manager (SetsAreas pid1 (region 131071) stack_areas (mem 1)))
     ∷ Show (Fill pid1 0x10000 code)
-    ∷ Call (order Manager (WritesFill code_patch (mem 0)))
+    ∷ Call (order Manager (Writes origin.Fill code_patch (mem 0)))
     ∷ Show (Fill pid1 (67108847 * 4096 + 4088) (1 ∷ 0 ∷ []))
-    ∷ Call (order Manager (WritesFill stack_patch (mem 1)))
+    ∷ Call (order Manager (Writes origin.Fill stack_patch (mem 1)))
     ∷ Show (Turn 1 pid1)
     ∷ Call (order cpu0 (Finds pid1 (region 0)))
     ∷ Call (order cpu0 (Reads pid1 (record { 0 = 1025 }) (mem 0)))
@@ -138,7 +141,7 @@ first_run_ends : next (run (start three boot_marks) (played 77 (start three boot
 first_run_ends = refl
 
 -- and the byte that was fetched is that of the plain map
-first_run_bytes : (run (start three boot_marks) (played 77 (start three boot_marks))).plain.byte 1 0x10078 ≡ 0x13
+first_run_bytes : byte_at (run (start three boot_marks) (played 77 (start three boot_marks))).plain 1 0x10078 ≡ 0x13
 first_run_bytes = refl
 
 -- TWO WRITES INTO A LOG OF ONE PATCH: two memories, the owner is memory 0
@@ -168,7 +171,7 @@ map_marks due =
     ∷ due
 
 abbrev pub fill_marks : ℕ → List Mark → List Mark
-fill_marks byte due = Show (Fill pid1 0x10000 (byte ∷ [])) ∷ Call (order Manager (WritesFill (byte_patch byte) (mem 0))) ∷ due
+fill_marks byte due = Show (Fill pid1 0x10000 (byte ∷ [])) ∷ Call (order Manager (Writes origin.Fill (byte_patch byte) (mem 0))) ∷ due
 
 -- which of the pending messages 2519 picks: the newest of up to ten
 abbrev newest : List ℕ
@@ -273,7 +276,7 @@ healed_write : drop 22 (briefs (played 120 (one_fill (crash_after 9 1)))) ≡
 healed_write = refl
 
 -- and the page has the byte: at its owner, and in the plain map
-healed_byte : (run (one_fill (crash_after 9 1)) (played 120 (one_fill (crash_after 9 1)))).plain.byte 1 0x10000 ≡ 7
+healed_byte : byte_at (run (one_fill (crash_after 9 1)) (played 120 (one_fill (crash_after 9 1)))).plain 1 0x10000 ≡ 7
 healed_byte = refl
 
 -- REFUSED: at each of these points another event may come, and not the one that a wrong body would show
@@ -333,7 +336,7 @@ wrong_pick may =
 -- a completion one delivery too early: the owner's answer is still pending
 complete_too_early : May (filling 30) (Complete op3) → ⊥
 complete_too_early may =
-    let early : None ≡ Some 3 = may.complete in
+    let early : None ≡ Some op3 = may.complete in
     cc early
 
 -- a delivery where the completion is due
@@ -349,7 +352,7 @@ crashing n = run (one_fill (crash_after 12 1)) (played n (one_fill (crash_after 
 
 answer_before_crash : May (crashing 33) (Complete op3) → ⊥
 answer_before_crash may =
-    let early : None ≡ Some 3 = may.complete in
+    let early : None ≡ Some op3 = may.complete in
     cc early
 
 both_answered : drop 29 (briefs (played 33 (one_fill (crash_after 12 1)))) ≡

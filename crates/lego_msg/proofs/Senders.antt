@@ -1,21 +1,26 @@
 -- What components hold along a list is the table's fold, and what they send stands directly after its delivery.
-use Rattle.std.proofs.Common.{◌≡◌, ℕ, zero, suc, Bool, true, false, cond, eqb, List, [], ◌∷◌, Option, Some, None, refl, sym, ◌∙◌, ap, subst, slice_get}
+use Rattle.std.proofs.Common.{◌≡◌, [], ◌∷◌, ◌∙◌, ℕ, Bool, List, None, Option, Some, ap, cond, eqb, false, refl, slice_get, subst, suc, sym, true, zero}
+use Rattle.std.proofs.lemmas.Bool.{eq-eqb, eqb-true}
 use Rattle.std.specs.Prelude.{slice_set}
-use Rattle.std.proofs.lemmas.Bool.{eqb-true, eq-eqb}
 use Rattle.lego_base.specs.declared.ids.MemId.{MemId}
-use Rattle.lego_msg.specs.declared.place.Place.{Place}
-use Rattle.lego_msg.specs.declared.place.Place.TheVariants.{Processor, Memory, Storage, Manager}
-use Rattle.lego_msg.specs.declared.message.Message.{Message}
-use Rattle.lego_msg.specs.declared.event.Event.{Event}
-use Rattle.lego_msg.specs.declared.event.Event.TheVariants.{Turn, Access, Fill, Drop, Send, Deliver, Crash, Complete, Out}
-use Rattle.lego_msg.specs.State.{Mem, Disk, lost}
+use Rattle.lego_msg.proofs.Flow.{completed_same, issuer_same, send_sent}
+use Rattle.lego_msg.proofs.Lists.{Legal-back, Legal-front}
+use Rattle.lego_msg.specs.Crashes.{memory_lost}
+use Rattle.lego_msg.specs.Deliveries.{comes, memory_handles, taken}
+use Rattle.lego_msg.specs.Laws.{BeginsWith, SendsFollow, memory_along, memory_given, storage_along, storage_given}
+use Rattle.lego_msg.specs.Legal.{Legal}
+use Rattle.lego_msg.specs.Run.{after, run}
+use Rattle.lego_msg.specs.Sends.{MaySend, sent}
+use Rattle.lego_msg.specs.State.{Disk, Mem, lost}
 use Rattle.lego_msg.specs.Table.{handled, stored}
-use Rattle.lego_msg.specs.Track.{Open, Healing, Track, start}
-use Rattle.lego_msg.specs.Run.{taken, memory_handles, memory_lost, comes, sent, after, run}
-use Rattle.lego_msg.specs.Legal.{MaySend, Legal}
-use Rattle.lego_msg.specs.Laws.{memory_after, memory_along, storage_after, storage_along, BeginsWith, SendsFollow}
-use Rattle.lego_msg.proofs.Lists.{Legal-front, Legal-back}
-use Rattle.lego_msg.proofs.Flow.{issuer_same, completed_same, send_sent}
+use Rattle.lego_msg.specs.Track.{Track, start}
+use Rattle.lego_msg.specs.declared.event.Event.{Event}
+use Rattle.lego_msg.specs.declared.event.Event.TheVariants.{Access, Complete, Crash, Deliver, Drop, Fill, Out, Send, Turn}
+use Rattle.lego_msg.specs.declared.healing.Healing.{Healing}
+use Rattle.lego_msg.specs.declared.message.Message.{Message}
+use Rattle.lego_msg.specs.declared.operation.Open.{Open}
+use Rattle.lego_msg.specs.declared.place.Place.{Place}
+use Rattle.lego_msg.specs.declared.place.Place.TheVariants.{Manager, Memory, Processor, Storage}
 
 -- one place of a list is set, and the others stay
 pub get_set : {X : Type 0} (xs : List X) (i : ℕ) (old new : X) → slice_get xs i ≡ Some old → slice_get (slice_set xs i new) i ≡ Some new
@@ -59,7 +64,7 @@ lost_at : (mems : List Mem) (i c : ℕ) (o : Option Mem) (s : Mem) → slice_get
 lost_at mems i c None s at_i at_c = no_place mems i c lost s (eqb i c) refl at_i at_c
 lost_at mems i c (Some x) s at_i at_c = at_place mems i c lost x s (eqb i c) refl at_i at_c
 
-comes_at : (t : Track) (m : Message) (to : Place) (c : ℕ) (s : Mem) → slice_get t.mems c ≡ Some s → slice_get (comes t m to).mems c ≡ Some (memory_after c s m to)
+comes_at : (t : Track) (m : Message) (to : Place) (c : ℕ) (s : Mem) → slice_get t.mems c ≡ Some s → slice_get (comes t m to).mems c ≡ Some (memory_given c s m to)
 comes_at t m (Processor cpu) c s at = ap (λ (ms : List Mem). slice_get ms c) (issuer_same t m).mems ∙ at
 comes_at t m (Memory number) c s at = handles_at t number.0 c m (slice_get t.mems number.0) s refl at
 comes_at t m Storage c s at = at
@@ -69,7 +74,7 @@ handles_disk : (t : Track) (i : ℕ) (m : Message) (o : Option Mem) → (memory_
 handles_disk t i m None = refl
 handles_disk t i m (Some s) = refl
 
-comes_disk : (t : Track) (m : Message) (to : Place) → (comes t m to).disk ≡ storage_after t.disk m to
+comes_disk : (t : Track) (m : Message) (to : Place) → (comes t m to).disk ≡ storage_given t.disk m to
 comes_disk t m (Processor cpu) = (issuer_same t m).disk
 comes_disk t m (Memory number) = handles_disk t number.0 m (slice_get t.mems number.0)
 comes_disk t m Storage = refl
@@ -82,7 +87,7 @@ mem_along c s t (Access cpu pid address kind bytes ∷ es) legal at = mem_along 
 mem_along c s t (Fill pid address bytes ∷ es) legal at = mem_along c s (after t (Fill pid address bytes)) es legal.1 at
 mem_along c s t (Drop cpu pid line ∷ es) legal at = mem_along c s (after t (Drop cpu pid line)) es legal.1 at
 mem_along c s t (Send m ∷ es) legal at = mem_along c s (after t (Send m)) es legal.1 (ap (λ (ms : List Mem). slice_get ms c) (send_sent t m t.owed t.healing t.current legal.0).mems ∙ at)
-mem_along c s t (Deliver m ∷ es) legal at = mem_along c (memory_after c s m m.to) (after t (Deliver m)) es legal.1 (comes_at (taken t) m m.to c s at)
+mem_along c s t (Deliver m ∷ es) legal at = mem_along c (memory_given c s m m.to) (after t (Deliver m)) es legal.1 (comes_at (taken t) m m.to c s at)
 mem_along c s t (Crash number inc ∷ es) legal at = mem_along c (cond (eqb number.0 c) (lost s) s) (after t (Crash number inc)) es legal.1 (lost_at t.mems number.0 c (slice_get t.mems number.0) s refl at)
 mem_along c s t (Complete op ∷ es) legal at = mem_along c s (after t (Complete op)) es legal.1 (ap (λ (ms : List Mem). slice_get ms c) (completed_same t op.0 t.healing).mems ∙ at)
 mem_along c s t (Out stream bytes ∷ es) legal at = mem_along c s (after t (Out stream bytes)) es legal.1 at

@@ -1,10 +1,11 @@
 -- Laws of what was shown: nothing, one event, and one run of events after another.
-use Rattle.std.proofs.Common.{◌≡◌, inl, inr, ℕ, ◌≤◌, List, [], ◌∷◌, ◌++◌, Option, Some, None, refl, sym, ◌∙◌, ap, subst, arith}
-use Rattle.std.proofs.lemmas.List.{append_assoc, append-nil}
+use Rattle.std.proofs.Common.{◌≡◌, ◌≤◌, [], ◌∷◌, ◌++◌, ◌∙◌, ℕ, List, None, Option, Some, ap, append-nil, append_assoc, arith, inl, inr, refl, subst, sym}
 use Rattle.std.proofs.lemmas.Bool.{cases_lt}
-use Rattle.lego_msg.specs.declared.event.Event.{Event}
+use Rattle.lego_base.specs.Counts.{Calm, risen}
+use Rattle.lego_msg.specs.Laws.{counted}
 use Rattle.lego_msg.specs.ListWatched.{Seen, next_call}
-use Rattle.lego_msg.specs.Watching.{risen, Calm, Grew, FrontOf, Shown}
+use Rattle.lego_msg.specs.Watching.{FrontOf, Grew, Shown}
+use Rattle.lego_msg.specs.declared.event.Event.{Event}
 
 pub shown_added : (held : List Event) (e : Event) (n : ℕ) → n ≡ 0 → Shown (Some held) n (Some (held ++ e ∷ [])) n (e ∷ [])
 shown_added held e n first = record {

@@ -1,14 +1,15 @@
 -- Messages in form: what the code of a memory or of storage asks of a message that it is given.
-use Rattle.std.specs.Prelude.{◌≡◌, ℕ, ◌+◌, ◌*◌, ◌/◌, ◌<◌, ◌≤◌, ◌==◌, Bool, true, false, ◌&&◌, List, [], ◌∷◌, length}
 use Rattle.std.specs.List.{AllByRecursion}
+use Rattle.std.specs.Prelude.{◌≡◌, ◌+◌, ◌*◌, ◌/◌, ◌<◌, ◌≤◌, ◌==◌, ◌&&◌, [], ◌∷◌, ℕ, Bool, List, false, length, true}
+use Rattle.lego_base.specs.Files.{is_file}
+use Rattle.lego_base.specs.Keys.{Key, same_key}
 use Rattle.lego_base.specs.declared.records.Area.{Area}
 use Rattle.lego_base.specs.declared.records.PageImage.{PageImage}
 use Rattle.lego_base.specs.declared.records.SpaceAreas.{SpaceAreas}
-use Rattle.lego_msg.specs.declared.body.Body.{Body}
-use Rattle.lego_msg.specs.declared.body.Body.TheVariants.{SetAreas, Unmap, PushMeta, PushImages, ResetImages, FileRead, FileWrite, FileCut, BlockGet, BlockIs, BlockPut, BlockCut, FileSize}
-use Rattle.lego_msg.specs.Maps.{Key, same_key, home_key, areas_key, page_key}
-use Rattle.lego_msg.specs.Files.{is_there}
+use Rattle.lego_msg.specs.Maps.{areas_key, home_key, page_key}
 use Rattle.lego_msg.specs.State.{Disk}
+use Rattle.lego_msg.specs.declared.body.Body.{Body}
+use Rattle.lego_msg.specs.declared.body.Body.TheVariants.{BlockCut, BlockGet, BlockIs, BlockPut, FileCut, FileRead, FileSize, FileWrite, PushImages, PushMeta, ResetImages, SetAreas, Unmap}
 
 -- whether an area goes on where another ends, with the same permissions
 abbrev pub goes_on : Area → Area → Bool
@@ -58,8 +59,8 @@ InForm other = Unit {0}
 
 -- and besides, for storage: the file that a request is about is there
 abbrev pub HasFile : Disk → Body → Type 0
-HasFile d (FileSize file) = is_there d.files.files file.0 ≡ true
-HasFile d (BlockGet file block off len asker) = is_there d.files.files file.0 ≡ true
-HasFile d (BlockPut file block off bytes asker) = is_there d.files.files file.0 ≡ true
-HasFile d (BlockCut file size asker) = is_there d.files.files file.0 ≡ true
+HasFile d (FileSize file) = is_file d.files.files file.0 ≡ true
+HasFile d (BlockGet file block off len asker) = is_file d.files.files file.0 ≡ true
+HasFile d (BlockPut file block off bytes asker) = is_file d.files.files file.0 ≡ true
+HasFile d (BlockCut file size asker) = is_file d.files.files file.0 ≡ true
 HasFile d other = Unit {0}

@@ -1,29 +1,19 @@
 -- Healing: what the manager does after the crash of a memory c, one message at a time, and each move's
 -- answer is there before the next move begins. Let s be the secondary of c, and q the memory whose secondary
 -- c is.
-use Rattle.std.specs.Prelude.{ℕ, List, [], ◌∷◌, ◌++◌, Option, Some}
-use Rattle.lego_base.specs.declared.ids.Pid.{Pid}
-use Rattle.lego_base.specs.declared.ids.RegionNo.{RegionNo}
+use Rattle.std.specs.Prelude.{[], ◌∷◌, ◌++◌, ℕ, List, Option, Some}
 use Rattle.lego_base.specs.declared.records.HomeEntry.{HomeEntry}
-use Rattle.lego_base.specs.declared.records.SpaceAreas.{SpaceAreas}
 use Rattle.lego_base.specs.declared.records.PageImage.{PageImage}
-use Rattle.lego_msg.specs.declared.place.Place.{Place}
-use Rattle.lego_msg.specs.declared.place.Place.TheVariants as place
-use Rattle.lego_msg.specs.declared.place.Role.{Role}
-use Rattle.lego_msg.specs.declared.place.Role.TheVariants.{Main, Spare}
-use Rattle.lego_msg.specs.declared.body.Body.{Body}
-use Rattle.lego_msg.specs.declared.body.Body.TheVariants.{Drain, PullMeta, PushMeta, PullImages, PushImages, PullPages, ResetImages, Meta, Images}
-use Rattle.lego_msg.specs.Places.{memory, secondary_of, guarded_by}
+use Rattle.lego_base.specs.declared.records.SpaceAreas.{SpaceAreas}
 use Rattle.lego_msg.specs.Maps.{owned_by}
 use Rattle.lego_msg.specs.Operations.{Ask, ask}
-
--- A move is a message of which all is known beforehand, or one that hands on what the move before it was
--- answered: homes and areas to a memory, a region's images to a memory, a region's pages to storage.
-pub data Move : Type 0 where
-  Asks : Place → Body → Move
-  HandsMeta : Place → Role → Move
-  HandsImages : Place → Pid → RegionNo → Move
-  HandsPages : Pid → RegionNo → Move
+use Rattle.lego_msg.specs.Places.{guarded_by, memory, secondary_of}
+use Rattle.lego_msg.specs.declared.body.Body.{Body}
+use Rattle.lego_msg.specs.declared.body.Body.TheVariants.{Drain, Images, Meta, PullImages, PullMeta, PullPages, PushImages, PushMeta, ResetImages}
+use Rattle.lego_msg.specs.declared.healing.Move.{Move}
+use Rattle.lego_msg.specs.declared.healing.Move.TheVariants.{Asks, HandsImages, HandsMeta, HandsPages}
+use Rattle.lego_msg.specs.declared.place.Role.TheVariants.{Main, Spare}
+use Rattle.lego_msg.specs.declared.place.Place.TheVariants as place
 
 -- per region of c, rising: its images from storage to c
 abbrev pub images_back : ℕ → List HomeEntry → List Move

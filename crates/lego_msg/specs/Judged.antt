@@ -1,14 +1,15 @@
 -- What the list of events alone says of an operation, and of the delivery list.
-use Rattle.std.specs.Prelude.{ℕ, ◌==◌, Bool, true, false, not, ◌&&◌, ◌||◌, if◌then◌else◌, List, [], ◌∷◌, length, Option, Some, None}
-use Rattle.lego_msg.specs.declared.place.Place.{Place}
+use Rattle.std.specs.List.{list_all}
+use Rattle.std.specs.Prelude.{◌==◌, ◌&&◌, ◌||◌, if◌then◌else◌, [], ◌∷◌, ℕ, Bool, List, None, Option, Some, false, length, not}
+use Rattle.lego_msg.specs.Deliveries.{stops}
+use Rattle.lego_msg.specs.Places.{is_issuer, memory, same_place}
+use Rattle.lego_msg.specs.Track.{is_pending, pick_of}
 use Rattle.lego_msg.specs.declared.body.Body.{Body}
-use Rattle.lego_msg.specs.declared.body.Body.TheVariants.{LogFull, Drained}
-use Rattle.lego_msg.specs.declared.message.Message.{Message}
+use Rattle.lego_msg.specs.declared.body.Body.TheVariants.{Drained, LogFull}
 use Rattle.lego_msg.specs.declared.event.Event.{Event}
-use Rattle.lego_msg.specs.declared.event.Event.TheVariants.{Turn, Access, Fill, Drop, Send, Deliver, Crash, Complete, Out}
-use Rattle.lego_msg.specs.Places.{memory, same_place, is_issuer}
-use Rattle.lego_msg.specs.Track.{pick_of, is_pending}
-use Rattle.lego_msg.specs.Run.{stops}
+use Rattle.lego_msg.specs.declared.event.Event.TheVariants.{Crash, Deliver}
+use Rattle.lego_msg.specs.declared.message.Message.{Message}
+use Rattle.lego_msg.specs.declared.place.Place.{Place}
 
 -- the place in the pending list that the delivery list picks for the delivery with a number
 abbrev pub place_picked : List ℕ → ℕ → ℕ → Option ℕ
@@ -26,15 +27,9 @@ is_answer number write place m = m.op.0 == number && is_issuer m.to && same_plac
 
 -- whether a place has answered after one more event: a crash of the place forgets its answers
 abbrev pub answered_after : ℕ → Bool → Place → Bool → Event → Bool
-answered_after number write place so_far (Turn turn pid) = so_far
-answered_after number write place so_far (Access cpu pid address kind bytes) = so_far
-answered_after number write place so_far (Fill pid address bytes) = so_far
-answered_after number write place so_far (Drop cpu pid line) = so_far
-answered_after number write place so_far (Send m) = so_far
 answered_after number write place so_far (Deliver m) = is_answer number write place m || so_far
 answered_after number write place so_far (Crash m inc) = not (same_place place (memory m.0)) && so_far
-answered_after number write place so_far (Complete op) = so_far
-answered_after number write place so_far (Out stream bytes) = so_far
+answered_after number write place so_far other = so_far
 
 -- whether a place has answered an operation since its last crash, along some events
 abbrev pub answered_along : ℕ → Bool → Place → Bool → List Event → Bool
@@ -45,8 +40,7 @@ abbrev pub has_answered_in : ℕ → Bool → Place → List Event → Bool
 has_answered_in number write place es = answered_along number write place false es
 
 abbrev pub all_answered_in : ℕ → Bool → List Place → List Event → Bool
-all_answered_in number write [] es = true
-all_answered_in number write (p ∷ targets) es = has_answered_in number write p es && all_answered_in number write targets es
+all_answered_in number write targets es = list_all (λ (p : Place). has_answered_in number write p es) targets
 
 -- An operation is complete where each target has answered since its last crash, and no message of it is pending.
 abbrev pub is_complete_in : ℕ → Bool → List Place → List Event → List Message → Bool

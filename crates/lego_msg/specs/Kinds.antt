@@ -1,7 +1,7 @@
 -- The names of the kinds of messages, as traces have them.
 use Rattle.std.specs.Prelude.{ℕ, List, codes}
 use Rattle.lego_msg.specs.declared.body.Body.{Body}
-use Rattle.lego_msg.specs.declared.body.Body.TheVariants.{Find, Read, Write, LogWrite, Drain, SetHome, SetAreas, GetAreas, Unmap, CopySpace, DropSpace, FileRead, FileWrite, FileCut, PullMeta, PushMeta, PullPages, PushImages, ImageDrop, ImageCopy, ImageFree, PullImages, ResetImages, FileSize, NameGet, NameMake, NameCut, NameAll, FileFree, Backup, BackedUp, BlockGet, BlockIs, BlockPut, BlockCut, OwnerIs, Line, Refused, Wrote, LogFull, Drained, Done, AreasAre, FileBytes, SizeIs, NameIs, Names, Meta, Images}
+use Rattle.lego_msg.specs.declared.body.Body.TheVariants.{AreasAre, BackedUp, Backup, BlockCut, BlockGet, BlockIs, BlockPut, CopySpace, Done, Drain, Drained, DropSpace, FileBytes, FileCut, FileFree, FileRead, FileSize, FileWrite, Find, GetAreas, ImageCopy, ImageDrop, ImageFree, Images, Line, LogFull, LogWrite, Meta, NameAll, NameCut, NameGet, NameIs, NameMake, Names, OwnerIs, PullImages, PullMeta, PullPages, PushImages, PushMeta, Read, Refused, ResetImages, SetAreas, SetHome, SizeIs, Unmap, Write, Wrote}
 
 abbrev pub kind_of : Body → List ℕ
 kind_of (Find pid region) = codes "Find"

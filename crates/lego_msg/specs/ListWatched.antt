@@ -1,9 +1,9 @@
 -- What a watch in memory shows: the events that it holds, and its calls. Calls are numbered from 1, and some of
 -- them are to fail.
-use Rattle.std.specs.Prelude.{ℕ, ◌+◌, ◌-◌, ◌^◌, nat_lt, ◌==◌, ◌||◌, min, Bool, List, [], ◌∷◌, ◌++◌}
 use Rattle.std.specs.List.{list_any}
+use Rattle.std.specs.Prelude.{◌+◌, ◌-◌, ◌^◌, ◌==◌, ◌||◌, [], ◌∷◌, ◌++◌, ℕ, Bool, List, min, nat_lt}
+use Rattle.lego_base.specs.Counts.{risen}
 use Rattle.lego_msg.specs.declared.event.Event.{Event}
-use Rattle.lego_msg.specs.Watching.{risen}
 
 pub record Seen : Type 0 where
   pub held : List Event

@@ -1,70 +1,18 @@
--- Finite maps that components list: a map is the list of its entries in rising order of their keys, and a
--- key is a process with a page number or a region number.
-use Rattle.std.specs.Prelude.{ℕ, ◌+◌, ◌/◌, ◌==◌, nat_le, nat_lt, Bool, not, ◌&&◌, if◌then◌else◌, List, [], ◌∷◌, ◌++◌, map, length, take, drop, replicate, Option, Some, None}
-use Rattle.lego_base.specs.declared.ids.Pid.{Pid}
-use Rattle.lego_base.specs.declared.ids.RegionNo.{RegionNo}
-use Rattle.lego_base.specs.declared.ids.MemId.{MemId}
-use Rattle.lego_base.specs.declared.records.Area.{Area}
-use Rattle.lego_base.specs.declared.records.Patch.{Patch}
-use Rattle.lego_base.specs.declared.records.PageImage.{PageImage}
-use Rattle.lego_base.specs.declared.records.HomeEntry.{HomeEntry}
-use Rattle.lego_base.specs.declared.records.SpaceAreas.{SpaceAreas}
-
-pub record Key : Type 0 where
-  pub pid : ℕ
-  pub number : ℕ
-
-abbrev pub key_at : ℕ → ℕ → Key
-key_at pid number = record { pid = pid; number = number }
-
-abbrev pub same_key : Key → Key → Bool
-same_key a b = a.pid == b.pid && a.number == b.number
-
--- the order of keys: by process, then by number
-abbrev pub is_below : Key → Key → Bool
-is_below a b = if a.pid == b.pid then nat_lt a.number b.number else nat_lt a.pid b.pid
-
--- the entry with a key
-abbrev pub find : {X : Type 0} → (X → Key) → Key → List X → Option X
-find key k [] = None
-find key k (x ∷ xs) = if same_key (key x) k then Some x else find key k xs
-
--- the map with an entry, in place of the one with its key
-abbrev pub put : {X : Type 0} → (X → Key) → X → List X → List X
-put key x [] = x ∷ []
-put key x (y ∷ ys) =
-    if is_below (key x) (key y) then x ∷ y ∷ ys else (
-    if same_key (key x) (key y) then x ∷ ys else
-    y ∷ put key x ys)
-
--- the map with some entries, one after the other
-abbrev pub put_all : {X : Type 0} → (X → Key) → List X → List X → List X
-put_all key [] ys = ys
-put_all key (x ∷ xs) ys = put_all key xs (put key x ys)
-
--- the entries whose keys a test picks
-abbrev pub those : {X : Type 0} → (X → Key) → (Key → Bool) → List X → List X
-those key test [] = []
-those key test (x ∷ xs) = if test (key x) then x ∷ those key test xs else those key test xs
-
--- the map without them
-abbrev pub without : {X : Type 0} → (X → Key) → (Key → Bool) → List X → List X
-without key test xs = those key (λ k. not (test k)) xs
-
--- the tests: an exact key, all of a process, the pages of a region, a range of pages
-abbrev pub is_at : ℕ → ℕ → Key → Bool
-is_at pid number k = same_key k (key_at pid number)
-
-abbrev pub is_of : ℕ → Key → Bool
-is_of pid k = k.pid == pid
-
-abbrev pub is_page_of : ℕ → ℕ → Key → Bool
-is_page_of pid region k = k.pid == pid && k.number / 512 == region
-
-abbrev pub is_page_from : ℕ → ℕ → ℕ → Key → Bool
-is_page_from pid first pages k = k.pid == pid && nat_le first k.number && nat_lt k.number (first + pages)
+-- What components list: owners of regions, areas of regions, and pages. Each is a finite map by process and number.
 
 -- HOMES: which memory owns a region
+use Rattle.std.specs.Prelude.{◌==◌, ◌&&◌, if◌then◌else◌, [], ◌∷◌, ℕ, List, None, Option, Some, map}
+use Rattle.lego_base.specs.Keys.{Key, find, is_at, is_page_of, key_at, put, put_all, those, without}
+use Rattle.lego_base.specs.Pieces.{laid_over, zeros}
+use Rattle.lego_base.specs.declared.ids.MemId.{MemId}
+use Rattle.lego_base.specs.declared.ids.Pid.{Pid}
+use Rattle.lego_base.specs.declared.ids.RegionNo.{RegionNo}
+use Rattle.lego_base.specs.declared.records.Area.{Area}
+use Rattle.lego_base.specs.declared.records.HomeEntry.{HomeEntry}
+use Rattle.lego_base.specs.declared.records.PageImage.{PageImage}
+use Rattle.lego_base.specs.declared.records.Patch.{Patch}
+use Rattle.lego_base.specs.declared.records.SpaceAreas.{SpaceAreas}
+use Rattle.lego_msg.specs.Places.{memory}
 
 abbrev pub home_key : HomeEntry → Key
 home_key e = key_at e.pid.0 e.region.0
@@ -111,19 +59,24 @@ copied_areas parent child (region ∷ regions) lists = copied_areas parent child
 abbrev pub page_key : PageImage → Key
 page_key p = key_at p.pid.0 p.vpn.0
 
-abbrev pub zeros : ℕ → List ℕ
-zeros n = replicate n 0
+abbrev pub image_bytes : Option PageImage → Option (List ℕ)
+image_bytes None = None
+image_bytes (Some p) = Some p.bytes
 
-abbrev pub bytes_in : Option PageImage → List ℕ
-bytes_in None = zeros 4096
-bytes_in (Some p) = p.bytes
+-- the bytes of a page, where it is there
+abbrev pub page_in : List PageImage → ℕ → ℕ → Option (List ℕ)
+page_in pages pid vpn = image_bytes (find page_key (key_at pid vpn) pages)
+
+abbrev pub bytes_or_zeros : Option (List ℕ) → List ℕ
+bytes_or_zeros None = zeros 4096
+bytes_or_zeros (Some bytes) = bytes
 
 abbrev pub page_at : List PageImage → ℕ → ℕ → List ℕ
-page_at pages pid vpn = bytes_in (find page_key (key_at pid vpn) pages)
+page_at pages pid vpn = bytes_or_zeros (page_in pages pid vpn)
 
--- bytes with others in place of those from an offset on
-abbrev pub laid_over : List ℕ → ℕ → List ℕ → List ℕ
-laid_over old off bytes = take off old ++ bytes ++ drop (off + length bytes) old
+-- a page with a patch laid over it, where the patch is of that page
+abbrev pub laid_on : Patch → ℕ → ℕ → Option (List ℕ) → Option (List ℕ)
+laid_on p pid vpn page = if p.pid.0 == pid && p.vpn.0 == vpn then Some (laid_over (bytes_or_zeros page) p.off p.bytes) else page
 
 -- the pages with a patch laid over them
 abbrev pub patched : Patch → List PageImage → List PageImage

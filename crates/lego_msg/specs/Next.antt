@@ -1,25 +1,27 @@
--- The event that comes next: a list is determined by what is due, apart from the askings for areas, which the
--- code may choose.
-use Rattle.std.specs.Prelude.{ℕ, ◌+◌, ◌*◌, ◌/◌, ◌%◌, ◌==◌, zero, suc, nat_le, Bool, true, false, not, ◌&&◌, if◌then◌else◌, List, [], ◌∷◌, length, take, drop, Option, Some, None, is_some, is_none, slice_get}
-use Rattle.std.specs.Str.{bytes_eq}
+-- The event that comes next: the list of events is determined by what is due, the delivery list and the crash list.
+use Rattle.std.specs.Prelude.{◌+◌, ◌*◌, ◌/◌, ◌%◌, ◌==◌, ◌&&◌, if◌then◌else◌, [], ◌∷◌, ℕ, Bool, List, None, Option, Some, bytes_eq, drop, false, is_none, is_some, length, nat_le, slice_get, suc, take, true, zero}
 use Rattle.lego_base.specs.declared.records.Patch.{Patch}
 use Rattle.lego_base.specs.declared.shape.CrashAt.{CrashAt}
-use Rattle.lego_msg.specs.declared.place.Place.{Place}
-use Rattle.lego_msg.specs.declared.place.Place.TheVariants.{Processor, Memory, Storage, Manager}
-use Rattle.lego_msg.specs.declared.body.Body.{Body}
-use Rattle.lego_msg.specs.declared.message.Message.{Message}
-use Rattle.lego_msg.specs.declared.event.Kind.{Kind}
-use Rattle.lego_msg.specs.declared.event.Kind.TheVariants.{Load, Store, Fetch, CopyIn, CopyOut, Probe}
-use Rattle.lego_msg.specs.declared.event.Event.{Event}
-use Rattle.lego_msg.specs.declared.event.Event.TheVariants.{Turn, Access, Fill, Drop, Send, Deliver, Crash, Complete, Out}
+use Rattle.lego_msg.specs.Marks.{Call, Mark, Show, is_turn}
 use Rattle.lego_msg.specs.Places.{is_issuer}
+use Rattle.lego_msg.specs.Run.{after}
+use Rattle.lego_msg.specs.Sends.{open_move}
 use Rattle.lego_msg.specs.State.{Mem}
-use Rattle.lego_msg.specs.Operations.{Operation, Reads, WritesBack, WritesFill}
-use Rattle.lego_msg.specs.Healing.{Move}
-use Rattle.lego_msg.specs.Marks.{Mark, Call, Show, Asking, is_turn}
-use Rattle.lego_msg.specs.Track.{Open, Healing, Filled, Caches, Track, picked, is_complete, healing_move, next_crash, is_crash_due, is_crash_left, opened}
-use Rattle.lego_msg.specs.Run.{Begin, called, region_asked, open_move, after}
-use Rattle.lego_msg.specs.Legal.{next_due}
+use Rattle.lego_msg.specs.Track.{Caches, Filled, Track, healing_move, is_complete, is_crash_due, is_crash_left, next_crash, opened, picked}
+use Rattle.lego_msg.specs.declared.event.Event.{Event}
+use Rattle.lego_msg.specs.declared.event.Event.TheVariants.{Access, Complete, Crash, Deliver, Drop, Fill, Out, Send, Turn}
+use Rattle.lego_msg.specs.declared.event.Kind.{Kind}
+use Rattle.lego_msg.specs.declared.event.Kind.TheVariants.{CopyIn, CopyOut, Fetch, Load, Probe, Store}
+use Rattle.lego_msg.specs.declared.healing.Healing.{Healing}
+use Rattle.lego_msg.specs.declared.healing.Move.{Move}
+use Rattle.lego_msg.specs.declared.message.Message.{Message}
+use Rattle.lego_msg.specs.declared.operation.Open.{Open}
+use Rattle.lego_msg.specs.declared.operation.Operation.{Operation}
+use Rattle.lego_msg.specs.declared.operation.Operation.TheVariants.{Reads, Writes}
+use Rattle.lego_msg.specs.declared.operation.Origin.{Origin}
+use Rattle.lego_msg.specs.declared.place.Place.{Place}
+use Rattle.lego_msg.specs.declared.place.Place.TheVariants.{Manager, Memory, Processor, Storage}
+use Rattle.lego_msg.specs.declared.operation.Origin.TheVariants as origin
 
 abbrev pub delivered_next : Option Message → Option Event
 delivered_next None = None
@@ -67,12 +69,11 @@ abbrev pub due_next : Track → List Mark → Option Event
 due_next t [] = if is_crash_left t then crash_next t else None
 due_next t (Show e ∷ due) = if is_turn e && is_crash_left t then crash_next t else showable e
 due_next t (Call o ∷ due) = if o.late && is_crash_left t then crash_next t else send_first (opened t.shape t.next o.by o.operation).unsent None
-due_next t (Asking by pid must ∷ due) = None
 
 abbrev pub open_next : Track → Option Healing → Option Open → Option Event
 open_next t (Some h) current = move_next t h h.current h.moves
 open_next t None (Some o) = send_first o.unsent (deliver_next t)
-open_next t None None = due_next t (next_due t)
+open_next t None None = due_next t t.due
 
 -- a crash that is due, else what is open
 abbrev pub crash_or_open : Track → Option Event
@@ -80,7 +81,7 @@ crash_or_open t = if is_crash_due t then crash_next t else open_next t t.healing
 
 abbrev pub complete_next : List Message → Option Open → Option Event → Option Event
 complete_next pending None else_ = else_
-complete_next pending (Some o) else_ = if is_complete pending o then Some (Complete (record { 0 = o.number })) else else_
+complete_next pending (Some o) else_ = if is_complete pending o then Some (Complete o.number) else else_
 
 -- what is owed, else a completion, else the rest; nothing once the run was stopped by a refusal
 abbrev pub owed_next : Track → List Message → Option Event
@@ -128,41 +129,34 @@ abbrev pub writes_fill : Option Filled → Patch → Bool
 writes_fill None p = false
 writes_fill (Some f) p = f.pid == p.pid.0 && f.address == p.vpn.0 * 4096 + p.off && bytes_eq f.bytes p.bytes
 
+abbrev pub fits_origin : Caches → Place → Patch → Origin → Bool
+fits_origin caches by patch origin.Line = writes_line caches by patch
+fits_origin caches by patch origin.Fill = writes_fill caches.filled patch
+fits_origin caches by patch origin.Run = true
+
 abbrev pub fits_caches : Caches → Place → Operation → Bool
 fits_caches caches by (Reads pid line owner) = reads_absent caches by pid.0 line.0
-fits_caches caches by (WritesBack patch owner) = writes_line caches by patch
-fits_caches caches by (WritesFill patch owner) = writes_fill caches.filled patch
+fits_caches caches by (Writes from_ patch owner) = fits_origin caches by patch from_
 fits_caches caches by other = true
 
--- whether a message asks for areas at a place that allows it
-abbrev pub is_asking_at : Body → List Mark → Bool
-is_asking_at body [] = false
-is_asking_at body (Call o ∷ due) = false
-is_asking_at body (Show e ∷ due) = false
-is_asking_at body (Asking by pid must ∷ due) = is_some (region_asked body)
-
-abbrev pub fits_begin : Caches → Option Begin → Bool
-fits_begin caches None = true
-fits_begin caches (Some b) = fits_caches caches b.begins.by b.begins.operation && is_issuer b.begins.by
+abbrev pub fits_begin : Caches → List Mark → Bool
+fits_begin caches [] = true
+fits_begin caches (Show e ∷ due) = true
+fits_begin caches (Call o ∷ due) = fits_caches caches o.by o.operation && is_issuer o.by
 
 abbrev pub fits_send : Track → List Message → Option Healing → Option Open → Bool
 fits_send t (m ∷ owed) h o = true
 fits_send t [] (Some h) o = true
 fits_send t [] None (Some o) = true
-fits_send t [] None None = fits_begin t.caches (called (next_due t))
+fits_send t [] None None = fits_begin t.caches t.due
 
 abbrev pub fits : Track → Event → Bool
-fits t (Turn number pid) = true
 fits t (Access cpu pid address kind bytes) = in_line (t.caches.line cpu.0 pid.0 (address / 64)) address kind bytes
-fits t (Fill pid address bytes) = true
 fits t (Drop cpu pid line) = is_some (t.caches.line cpu.0 pid.0 line.0)
-fits t (Send m) = fits_send t t.owed t.healing t.current && not (is_asking_at m.body t.due)
-fits t (Deliver m) = true
-fits t (Crash number inc) = true
-fits t (Complete op) = true
-fits t (Out stream bytes) = true
+fits t (Send m) = fits_send t t.owed t.healing t.current
+fits t other = true
 
--- the next events, so many at most
+-- the next events, n at most
 abbrev pub played_on : ℕ → Track → Option Event → (Track → List Event) → List Event
 played_on n t None more = []
 played_on n t (Some e) more = e ∷ more (after t e)

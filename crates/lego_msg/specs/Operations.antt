@@ -1,59 +1,19 @@
--- Operations: what a processor or the manager asks of the components, each one's first messages in order, who
--- must answer, and what it makes of the plain map once it is complete.
-use Rattle.std.specs.Prelude.{ℕ, zero, suc, ◌+◌, ◌-◌, ◌*◌, ◌/◌, ◌==◌, nat_le, nat_lt, Bool, true, false, ◌&&◌, if◌then◌else◌, List, [], ◌∷◌, ◌++◌, length, Option, Some, None, slice_index}
-use Rattle.lego_base.specs.declared.ids.Pid.{Pid}
-use Rattle.lego_base.specs.declared.ids.MemId.{MemId}
-use Rattle.lego_base.specs.declared.ids.FileNo.{FileNo}
-use Rattle.lego_base.specs.declared.ids.LineNo.{LineNo}
-use Rattle.lego_base.specs.declared.ids.Vpn.{Vpn}
-use Rattle.lego_base.specs.declared.ids.RegionNo.{RegionNo}
-use Rattle.lego_base.specs.declared.records.Area.{Area}
-use Rattle.lego_base.specs.declared.records.Patch.{Patch}
-use Rattle.lego_msg.specs.declared.place.Place.{Place}
-use Rattle.lego_msg.specs.declared.place.Place.TheVariants as place
-use Rattle.lego_msg.specs.declared.place.Role.TheVariants.{Main, Spare}
-use Rattle.lego_msg.specs.declared.body.Body.{Body}
-use Rattle.lego_msg.specs.declared.body.Body.TheVariants as body
-use Rattle.lego_msg.specs.declared.message.Message.{Message}
-use Rattle.lego_msg.specs.Places.{home_of, secondary_of, cache_of, memory}
-use Rattle.lego_msg.specs.Files.{Files, file_written, file_cut, made, unnamed, freed}
-
-pub data Operation : Type 0 where
-  -- the owner of a region is asked for
-  Finds : Pid → RegionNo → Operation
-  -- a line is read from the owner of its region
-  Reads : Pid → LineNo → MemId → Operation
-  -- the patch of a line that is written back, or of a Fill, goes to the owner of its region
-  WritesBack : Patch → MemId → Operation
-  WritesFill : Patch → MemId → Operation
-  -- a region gets its owner
-  SetsHome : Pid → RegionNo → MemId → Operation
-  -- the areas of a region become these at its owner
-  SetsAreas : Pid → RegionNo → List Area → MemId → Operation
-  -- the areas of a region are asked for
-  AsksAreas : Pid → RegionNo → MemId → Operation
-  -- a memory's log is drained
-  Drains : MemId → Operation
-  -- so many pages from one on are unmapped in a region, whose areas become these
-  Unmaps : Pid → RegionNo → Vpn → ℕ → List Area → MemId → Operation
-  -- the child gets the areas and pages that the parent has in these regions of one owner
-  Copies : Pid → Pid → List RegionNo → MemId → Operation
-  -- a space is dropped
-  Drops : Pid → Operation
-  -- files: a file's number, a block, an offset into it, and a length or bytes
-  ReadsFile : FileNo → ℕ → ℕ → ℕ → Operation
-  WritesFile : FileNo → ℕ → ℕ → List ℕ → Operation
-  CutsFile : FileNo → ℕ → Operation
-  AsksSize : FileNo → Operation
-  GetsName : List ℕ → Operation
-  MakesName : List ℕ → Operation
-  CutsName : List ℕ → Operation
-  ListsNames : Operation
-  FreesFile : FileNo → Operation
-  -- one move of healing
-  Heals : Place → Body → Operation
+-- What each operation sends first, in order, and who must answer.
 
 -- a body, and where it goes
+use Rattle.std.specs.Prelude.{◌+◌, [], ◌∷◌, ◌++◌, ℕ, Bool, List, None, Option, Some, false, suc, true, zero}
+use Rattle.lego_base.specs.declared.ids.OpNo.{OpNo}
+use Rattle.lego_base.specs.declared.records.Patch.{Patch}
+use Rattle.lego_msg.specs.Places.{cache_of, home_of, memory, secondary_of}
+use Rattle.lego_msg.specs.declared.body.Body.{Body}
+use Rattle.lego_msg.specs.declared.message.Message.{Message}
+use Rattle.lego_msg.specs.declared.operation.Operation.{Operation}
+use Rattle.lego_msg.specs.declared.operation.Operation.TheVariants.{AsksAreas, AsksSize, Copies, CutsFile, CutsName, Drains, Drops, Finds, FreesFile, GetsName, Heals, ListsNames, MakesName, Reads, ReadsFile, SetsAreas, SetsHome, Unmaps, Writes, WritesFile}
+use Rattle.lego_msg.specs.declared.place.Place.{Place}
+use Rattle.lego_msg.specs.declared.place.Role.TheVariants.{Main, Spare}
+use Rattle.lego_msg.specs.declared.body.Body.TheVariants as body
+use Rattle.lego_msg.specs.declared.place.Place.TheVariants as place
+
 pub record Ask : Type 0 where
   pub to : Place
   pub body : Body
@@ -77,8 +37,7 @@ to_storage body = ask place.Storage body ∷ []
 abbrev pub asks_of : ℕ → Operation → List Ask
 asks_of n (Finds pid region) = ask (memory (home_of n pid.0)) (body.Find pid region) ∷ []
 asks_of n (Reads pid line owner) = ask (memory owner.0) (body.Read pid line) ∷ []
-asks_of n (WritesBack patch owner) = twice n owner.0 (body.LogWrite patch) (body.Write patch)
-asks_of n (WritesFill patch owner) = twice n owner.0 (body.LogWrite patch) (body.Write patch)
+asks_of n (Writes origin patch owner) = twice n owner.0 (body.LogWrite patch) (body.Write patch)
 asks_of n (SetsHome pid region owner) = twice n (home_of n pid.0) (body.SetHome pid region owner Spare) (body.SetHome pid region owner Main)
 asks_of n (SetsAreas pid region areas owner) = twice n owner.0 (body.SetAreas pid region areas Spare) (body.SetAreas pid region areas Main)
 asks_of n (AsksAreas pid region owner) = ask (memory owner.0) (body.GetAreas pid region) ∷ []
@@ -98,9 +57,9 @@ asks_of n (FreesFile file) = to_storage (body.FileFree file)
 asks_of n (Heals to what) = ask to what ∷ []
 
 -- the messages of asks
-abbrev pub messages_of : Place → ℕ → List Ask → List Message
+abbrev pub messages_of : Place → OpNo → List Ask → List Message
 messages_of by number [] = []
-messages_of by number (a ∷ asks) = record { from = by; to = a.to; op = record { 0 = number }; body = a.body } ∷ messages_of by number asks
+messages_of by number (a ∷ asks) = record { from = by; to = a.to; op = number; body = a.body } ∷ messages_of by number asks
 
 abbrev pub receivers : List Ask → List Place
 receivers [] = []
@@ -115,8 +74,7 @@ targets_of n other = receivers (asks_of n other)
 
 -- the patch of a write
 abbrev pub patch_of : Operation → Option Patch
-patch_of (WritesBack patch owner) = Some patch
-patch_of (WritesFill patch owner) = Some patch
+patch_of (Writes origin patch owner) = Some patch
 patch_of other = None
 
 -- whether there is one, and so an operation writes
@@ -126,63 +84,3 @@ has_patch (Some patch) = true
 
 abbrev pub is_write : Operation → Bool
 is_write o = has_patch (patch_of o)
-
--- THE PLAIN MAP: the areas of each region, the byte at each address, the files. Only the completion of an
--- operation changes it.
-pub record Plain : Type 0 where
-  -- by process and region
-  pub areas : ℕ → ℕ → List Area
-  -- by process and address
-  pub byte : ℕ → ℕ → ℕ
-  pub files : Files
-
-abbrev pub no_plain : Files → Plain
-no_plain files = record { areas = λ pid region. []; byte = λ pid address. 0; files = files }
-
--- the bytes of a patch, from its address on
-abbrev pub with_patch : Patch → Plain → Plain
-with_patch p f = record f { byte = λ pid address. if pid == p.pid.0 && nat_le (p.vpn.0 * 4096 + p.off) address && nat_lt address (p.vpn.0 * 4096 + p.off + length p.bytes) then slice_index p.bytes (address - (p.vpn.0 * 4096 + p.off)) else f.byte pid address }
-
--- the areas of one region
-abbrev pub with_region : ℕ → ℕ → List Area → Plain → Plain
-with_region p r areas f = record f { areas = λ pid region. if pid == p && region == r then areas else f.areas pid region }
-
--- zeros in so many pages
-abbrev pub without_pages : ℕ → ℕ → ℕ → Plain → Plain
-without_pages p first pages f = record f { byte = λ pid address. if pid == p && nat_le first (address / 4096) && nat_lt (address / 4096) (first + pages) then 0 else f.byte pid address }
-
--- one process's areas and bytes in a region are another's
-abbrev pub with_region_of : ℕ → ℕ → ℕ → Plain → Plain
-with_region_of parent child r f = record f {
-  areas = λ pid region. if pid == child && region == r then f.areas parent region else f.areas pid region;
-  byte = λ pid address. if pid == child && address / 2097152 == r then f.byte parent address else f.byte pid address;
-}
-
-abbrev pub with_regions_of : ℕ → ℕ → List RegionNo → Plain → Plain
-with_regions_of parent child [] f = f
-with_regions_of parent child (region ∷ regions) f = with_regions_of parent child regions (with_region_of parent child region.0 f)
-
--- nothing of a process
-abbrev pub without_space : ℕ → Plain → Plain
-without_space p f = record f {
-  areas = λ pid region. if pid == p then [] else f.areas pid region;
-  byte = λ pid address. if pid == p then 0 else f.byte pid address;
-}
-
-abbrev pub with_files : Files → Plain → Plain
-with_files files f = record f { files = files }
-
--- what an operation that is complete has made of the plain map
-abbrev pub effect : Operation → Plain → Plain
-effect (WritesBack patch owner) f = with_patch patch f
-effect (WritesFill patch owner) f = with_patch patch f
-effect (SetsAreas pid region areas owner) f = with_region pid.0 region.0 areas f
-effect (Unmaps pid region first pages areas owner) f = without_pages pid.0 first.0 pages (with_region pid.0 region.0 areas f)
-effect (Copies parent child regions owner) f = with_regions_of parent.0 child.0 regions f
-effect (Drops pid) f = without_space pid.0 f
-effect (WritesFile file block off bytes) f = with_files (record f.files { files = file_written f.files file.0 block off bytes }) f
-effect (CutsFile file size) f = with_files (record f.files { files = file_cut f.files file.0 size }) f
-effect (MakesName name) f = with_files (made f.files name) f
-effect (CutsName name) f = with_files (unnamed f.files name) f
-effect (FreesFile file) f = with_files (freed f.files file.0) f
-effect other f = f

@@ -1,13 +1,13 @@
 -- What the components hold.
-use Rattle.std.specs.Prelude.{ℕ, ◌+◌, List, []}
-use Rattle.lego_base.specs.declared.records.Patch.{Patch}
-use Rattle.lego_base.specs.declared.records.PageImage.{PageImage}
+use Rattle.std.specs.Prelude.{◌+◌, [], ℕ, List}
 use Rattle.lego_base.specs.declared.records.HomeEntry.{HomeEntry}
+use Rattle.lego_base.specs.declared.records.PageImage.{PageImage}
+use Rattle.lego_base.specs.declared.records.Patch.{Patch}
 use Rattle.lego_base.specs.declared.records.SpaceAreas.{SpaceAreas}
+use Rattle.lego_msg.specs.Files.{Files, no_files}
 use Rattle.lego_msg.specs.declared.place.Place.{Place}
 use Rattle.lego_msg.specs.declared.place.Role.{Role}
 use Rattle.lego_msg.specs.declared.place.Role.TheVariants.{Main, Spare}
-use Rattle.lego_msg.specs.Files.{Files, no_files}
 
 -- what a memory keeps in one role: the owners of regions, and the areas of regions
 pub record Kept : Type 0 where

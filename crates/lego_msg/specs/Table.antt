@@ -1,29 +1,32 @@
 -- The message table: what a component makes of a message, and what it sends, in order. One row a kind. A
 -- kind without a row for its receiver changes nothing and sends nothing. An answer goes to the message's
 -- sender with the same number.
-use Rattle.std.specs.Prelude.{ℕ, ◌+◌, ◌*◌, ◌/◌, ◌%◌, ◌==◌, nat_le, nat_lt, Bool, ◌&&◌, ◌||◌, if◌then◌else◌, List, [], ◌∷◌, ◌++◌, map, length, take, drop, Option, Some, None}
-use Rattle.lego_base.specs.declared.ids.Pid.{Pid}
+use Rattle.std.specs.Prelude.{◌+◌, ◌*◌, ◌/◌, ◌%◌, ◌==◌, ◌&&◌, ◌||◌, if◌then◌else◌, [], ◌∷◌, ◌++◌, ℕ, Bool, List, None, Option, Some, drop, length, map, nat_le, nat_lt, take}
+use Rattle.lego_base.specs.Files.{File, file_bytes, named}
+use Rattle.lego_base.specs.Keys.{is_of, is_page_from, put, put_all, without}
+use Rattle.lego_base.specs.Pieces.{piece}
+use Rattle.lego_base.specs.Space.{perms_of}
 use Rattle.lego_base.specs.declared.ids.FileNo.{FileNo}
+use Rattle.lego_base.specs.declared.ids.Pid.{Pid}
 use Rattle.lego_base.specs.declared.ids.RegionNo.{RegionNo}
 use Rattle.lego_base.specs.declared.perms.Perms.{Perms}
 use Rattle.lego_base.specs.declared.records.Area.{Area}
-use Rattle.lego_base.specs.declared.records.Patch.{Patch}
-use Rattle.lego_base.specs.declared.records.PageImage.{PageImage}
 use Rattle.lego_base.specs.declared.records.HomeEntry.{HomeEntry}
+use Rattle.lego_base.specs.declared.records.PageImage.{PageImage}
+use Rattle.lego_base.specs.declared.records.Patch.{Patch}
 use Rattle.lego_base.specs.declared.records.SpaceAreas.{SpaceAreas}
-use Rattle.lego_base.specs.Space.{perms_of}
+use Rattle.lego_msg.specs.Files.{block_of, file_cut, file_written, freed, is_file_room, is_room, made, unnamed}
+use Rattle.lego_msg.specs.Maps.{areas_at, areas_key, copied_areas, copied_pages, home_key, overlaid, owner_of, page_at, page_key, pages_of, patched, with_all_areas, with_areas, with_pages}
+use Rattle.lego_msg.specs.Places.{memory}
+use Rattle.lego_msg.specs.State.{Block, Disk, Kept, Mem, Waiter, kept, with_kept}
+use Rattle.lego_msg.specs.declared.body.Body.{Body}
+use Rattle.lego_msg.specs.declared.body.Body.TheVariants.{AreasAre, BackedUp, Backup, BlockCut, BlockGet, BlockIs, BlockPut, CopySpace, Done, Drain, Drained, DropSpace, FileBytes, FileCut, FileFree, FileRead, FileSize, FileWrite, Find, GetAreas, ImageCopy, ImageDrop, ImageFree, Images, Line, LogFull, LogWrite, Meta, NameAll, NameCut, NameGet, NameIs, NameMake, Names, OwnerIs, PullImages, PullMeta, PullPages, PushImages, PushMeta, Read, Refused, ResetImages, SetAreas, SetHome, SizeIs, Unmap, Write, Wrote}
+use Rattle.lego_msg.specs.declared.message.Message.{Message}
 use Rattle.lego_msg.specs.declared.place.Place.{Place}
-use Rattle.lego_msg.specs.declared.place.Place.TheVariants as place
 use Rattle.lego_msg.specs.declared.place.Role.{Role}
 use Rattle.lego_msg.specs.declared.place.Role.TheVariants.{Main, Spare}
-use Rattle.lego_msg.specs.declared.place.Why.TheVariants.{NoArea, Full, StoreFull, NoRoom}
-use Rattle.lego_msg.specs.declared.body.Body.{Body}
-use Rattle.lego_msg.specs.declared.body.Body.TheVariants.{Find, Read, Write, LogWrite, Drain, SetHome, SetAreas, GetAreas, Unmap, CopySpace, DropSpace, FileRead, FileWrite, FileCut, PullMeta, PushMeta, PullPages, PushImages, ImageDrop, ImageCopy, ImageFree, PullImages, ResetImages, FileSize, NameGet, NameMake, NameCut, NameAll, FileFree, Backup, BackedUp, BlockGet, BlockIs, BlockPut, BlockCut, OwnerIs, Line, Refused, Wrote, LogFull, Drained, Done, AreasAre, FileBytes, SizeIs, NameIs, Names, Meta, Images}
-use Rattle.lego_msg.specs.declared.message.Message.{Message}
-use Rattle.lego_msg.specs.Places.{memory}
-use Rattle.lego_msg.specs.Maps.{is_of, is_page_from, put, put_all, without, home_key, owner_of, areas_key, areas_at, with_areas, with_all_areas, copied_areas, page_key, page_at, patched, overlaid, pages_of, with_pages, copied_pages}
-use Rattle.lego_msg.specs.Files.{File, bytes_of, block_of, is_room, file_written, file_cut, named, is_file_room, made, unnamed, freed}
-use Rattle.lego_msg.specs.State.{Mem, Kept, Waiter, Block, Disk, kept, with_kept}
+use Rattle.lego_msg.specs.declared.place.Why.TheVariants.{Full, NoArea, NoRoom, StoreFull}
+use Rattle.lego_msg.specs.declared.place.Place.TheVariants as place
 
 -- MEMORIES
 
@@ -145,10 +148,6 @@ without_blocks file (b ∷ blocks) = if b.file == file then without_blocks file 
 abbrev pub with_block : Mem → ℕ → ℕ → List ℕ → Mem
 with_block s file block bytes = record s { blocks = take s.cache_room (record { file = file; block = block; bytes = bytes } ∷ without_block file block s.blocks) }
 
--- a piece of a block
-abbrev pub piece : List ℕ → ℕ → ℕ → List ℕ
-piece bytes off len = take len (drop off bytes)
-
 -- what a memory sends on behalf of who asked
 abbrev pub asks_storage : Mem → Message → Body → Mem × List Message
 asks_storage s m body = (s, record { from = memory s.id; to = place.Storage; op = m.op; body = body } ∷ [])
@@ -245,7 +244,7 @@ reset_images_row d m pid region pages = says (record d { images = with_pages pid
 
 -- a block is given, written, or the size is set; the files may not need more blocks than storage has
 abbrev pub block_get_row : Disk → Message → FileNo → ℕ → ℕ → ℕ → Place → Disk × List Message
-block_get_row d m file block off len asker = says d m (BlockIs file block off len asker (block_of (bytes_of d.files.files file.0) block))
+block_get_row d m file block off len asker = says d m (BlockIs file block off len asker (block_of (file_bytes d.files.files file.0) block))
 
 abbrev pub within_blocks : Disk → Message → Place → List File → Body → Disk × List Message
 within_blocks d m asker files body = if is_room d.files files then tells (record d { files = record d.files { files = files } }) m asker body else tells d m asker (Refused StoreFull)
@@ -257,7 +256,7 @@ abbrev pub block_cut_row : Disk → Message → ℕ → ℕ → Place → Disk �
 block_cut_row d m file size asker = within_blocks d m asker (file_cut d.files file size) Done
 
 abbrev pub file_size_row : Disk → Message → ℕ → Disk × List Message
-file_size_row d m file = says d m (SizeIs (length (bytes_of d.files.files file)))
+file_size_row d m file = says d m (SizeIs (length (file_bytes d.files.files file)))
 
 -- names are looked up, made, removed and listed
 abbrev pub name_get_row : Disk → Message → List ℕ → Disk × List Message

@@ -1,56 +1,25 @@
--- The track: all that a list of events determines. What an event makes of it is `after`, in Run.
-use Rattle.std.specs.Prelude.{ℕ, ◌+◌, ◌%◌, ◌==◌, nat_lt, Bool, true, false, not, ◌&&◌, ◌||◌, if◌then◌else◌, List, [], ◌∷◌, ◌++◌, length, take, drop, Option, Some, None, slice_get, slice_index}
+-- The track: all that a list of events determines. `after`, in Run, is the track after one more event.
+use Rattle.std.specs.List.{list_any}
+use Rattle.std.specs.Prelude.{◌≡◌, ◌+◌, ◌%◌, ◌==◌, ◌&&◌, ◌||◌, if◌then◌else◌, [], ◌∷◌, ◌++◌, ℕ, Bool, List, None, Option, Some, drop, false, length, nat_lt, not, slice_get, slice_index, take, true}
 use Rattle.lego_base.specs.declared.records.HomeEntry.{HomeEntry}
-use Rattle.lego_base.specs.declared.shape.Shape.{Shape}
 use Rattle.lego_base.specs.declared.shape.CrashAt.{CrashAt}
-use Rattle.lego_msg.specs.declared.place.Place.{Place}
+use Rattle.lego_base.specs.declared.shape.Shape.{Shape}
+use Rattle.lego_msg.specs.Files.{no_files}
+use Rattle.lego_msg.specs.Marks.{Mark}
+use Rattle.lego_msg.specs.Operations.{asks_of, messages_of, targets_of}
+use Rattle.lego_msg.specs.Places.{same_place}
+use Rattle.lego_msg.specs.Plain.{Plain, no_plain}
+use Rattle.lego_msg.specs.State.{Disk, Mem, empty_disk, empty_mem}
+use Rattle.lego_msg.specs.Table.{answers}
 use Rattle.lego_msg.specs.declared.body.Body.{Body}
 use Rattle.lego_msg.specs.declared.body.Body.TheVariants.{Line}
+use Rattle.lego_msg.specs.declared.clock.Clock.{Clock}
+use Rattle.lego_msg.specs.declared.healing.Healing.{Healing}
 use Rattle.lego_msg.specs.declared.message.Message.{Message}
-use Rattle.lego_msg.specs.Places.{same_place}
-use Rattle.lego_msg.specs.Maps.{Key}
-use Rattle.lego_msg.specs.Files.{no_files}
-use Rattle.lego_msg.specs.State.{Mem, Disk, empty_mem, empty_disk}
-use Rattle.lego_msg.specs.Operations.{Operation, asks_of, messages_of, targets_of, Plain, no_plain}
-use Rattle.lego_msg.specs.Healing.{Move}
-use Rattle.lego_msg.specs.Marks.{Mark}
-
--- an answer that was delivered: who gave it, and what it says
-pub record Answer : Type 0 where
-  pub place : Place
-  pub body : Body
-
--- an operation that is open
-pub record Open : Type 0 where
-  pub number : ℕ
-  pub by : Place
-  pub operation : Operation
-  -- its first messages that are still to be sent
-  pub unsent : List Message
-  -- who must answer
-  pub targets : List Place
-  -- the answers since its beginning, newest first, without those of a memory that crashed since it gave them
-  pub answers : List Answer
-
--- a healing that runs
-pub record Healing : Type 0 where
-  -- the memory that crashed
-  pub memory : ℕ
-  -- the moves that haven't begun
-  pub moves : List Move
-  -- the move that is on its way
-  pub current : Option Open
-  -- the answer of the last move that is complete
-  pub got : Option Body
-
--- turns, deliveries and crashes
-pub record Clock : Type 0 where
-  -- whether a turn was begun, its number, and the deliveries since then
-  pub begun : Bool
-  pub turn : ℕ
-  pub since : ℕ
-  -- how many entries of the crash list are passed
-  pub passed : ℕ
+use Rattle.lego_msg.specs.declared.operation.Answer.{Answer}
+use Rattle.lego_msg.specs.declared.operation.Open.{Open}
+use Rattle.lego_msg.specs.declared.operation.Operation.{Operation}
+use Rattle.lego_msg.specs.declared.place.Place.{Place}
 
 -- a Fill that was shown, and not written yet
 pub record Filled : Type 0 where
@@ -85,8 +54,6 @@ pub record Track : Type 0 where
   pub stopped : Bool
   -- who owns which region
   pub owners : List HomeEntry
-  -- the regions whose areas were asked for in this turn since they last changed
-  pub asked : List Key
   -- the plain map
   pub plain : Plain
   pub caches : Caches
@@ -115,7 +82,6 @@ start shape due = record {
   clock = record { begun = false; turn = 0; since = 0; passed = 0 };
   stopped = false;
   owners = [];
-  asked = [];
   plain = no_plain (no_files shape.blocks);
   caches = record { line = λ cpu pid line. None; filled = None };
   due = due;
@@ -126,7 +92,8 @@ memory_count shape = length shape.frames
 
 -- THE DELIVERY LIST
 
--- which of so many pending messages the delivery list picks for the delivery with a number, from 0
+-- which of the pending messages, of which there are this many, the delivery list picks for the delivery with a number
+-- from 0
 abbrev pub pick_of : List ℕ → ℕ → ℕ → ℕ
 pick_of deliveries number pending = slice_index deliveries (number % length deliveries) % pending
 
@@ -141,8 +108,7 @@ taken_out deliveries number pending = take (pick_of deliveries number (length pe
 
 -- whether a message of an operation is pending
 abbrev pub is_pending : ℕ → List Message → Bool
-is_pending number [] = false
-is_pending number (m ∷ pending) = m.op.0 == number || is_pending number pending
+is_pending number pending = list_any (λ (m : Message). m.op.0 == number) pending
 
 -- whether a place has answered
 abbrev pub has_answered : Place → List Answer → Bool
@@ -156,7 +122,7 @@ all_answered (target ∷ targets) answers = has_answered target answers && all_a
 -- An operation is complete where every target has answered since its last crash and no message of it is
 -- pending.
 abbrev pub is_complete : List Message → Open → Bool
-is_complete pending o = all_answered o.targets o.answers && not (is_pending o.number pending)
+is_complete pending o = all_answered o.targets o.answers && not (is_pending o.number.0 pending)
 
 -- whether an operation is open and complete, so that its Complete comes next
 abbrev pub is_done : List Message → Option Open → Bool
@@ -187,10 +153,10 @@ last_line (a ∷ answers) = line_in a.body (last_line answers)
 -- an operation that begins
 abbrev pub opened : Shape → ℕ → Place → Operation → Open
 opened shape number by operation = record {
-  number = number;
+  number = record { 0 = number };
   by = by;
   operation = operation;
-  unsent = messages_of by number (asks_of (memory_count shape) operation);
+  unsent = messages_of by (record { 0 = number }) (asks_of (memory_count shape) operation);
   targets = targets_of (memory_count shape) operation;
   answers = [];
 }
@@ -205,7 +171,7 @@ again shape o = record o { unsent = messages_of o.by o.number (asks_of (memory_c
 abbrev pub next_crash : Shape → Clock → Option CrashAt
 next_crash shape clock = slice_get shape.crashes clock.passed
 
--- whether an entry is of the turn that runs, and whether its moment is now: so many deliveries of the turn
+-- whether an entry is of the turn that runs, and whether its moment is now: after this many deliveries of the turn
 abbrev pub is_of_turn : Clock → Option CrashAt → Bool
 is_of_turn clock None = false
 is_of_turn clock (Some e) = clock.begun && e.turn == clock.turn
@@ -226,3 +192,16 @@ is_crash_left t = is_of_turn t.clock (next_crash t.shape t.clock)
 abbrev pub entries_below : ℕ → List CrashAt → ℕ
 entries_below turn [] = 0
 entries_below turn (e ∷ crashes) = if nat_lt e.turn turn then 1 + entries_below turn crashes else 0
+
+-- WHAT COMES FIRST: what is owed, then a completion, then a crash that is due
+
+-- No completion and no crash comes first, and the run wasn't stopped by a refusal.
+abbrev pub is_calm : Track → Bool
+is_calm t = not t.stopped && not (is_any_done t) && not (is_crash_due t)
+
+-- nothing is owed, open or healing
+pub record Quiet (t : Track) : Type 0 where
+  pub owed : t.owed ≡ []
+  pub closed : t.current ≡ None
+  pub healed : t.healing ≡ None
+  pub calm : is_calm t ≡ true

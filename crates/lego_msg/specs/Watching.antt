@@ -1,18 +1,7 @@
 -- What a watch tells, and how its count of faults moves.
-use Rattle.std.specs.Prelude.{◌≡◌, ℕ, ◌+◌, ◌-◌, ◌^◌, ◌<◌, ◌≤◌, min, List, ◌++◌, Option, Some, None}
+use Rattle.std.specs.Prelude.{◌≡◌, ◌<◌, ◌≤◌, ◌++◌, ℕ, List, None, Option, Some}
+use Rattle.lego_base.specs.Counts.{Calm}
 use Rattle.lego_msg.specs.declared.event.Event.{Event}
-
--- the count after one more fault; it stands still at its type's end
-abbrev pub risen : ℕ → ℕ
-risen count = min (count + 1) (2 ^ 64 - 1)
-
--- the count rose: it is greater than before, or it stands at its end
-abbrev pub Rose : ℕ → ℕ → Type 0
-Rose before now = risen before ≤ now
-
--- the count did not rise
-abbrev pub Calm : ℕ → ℕ → Type 0
-Calm before now = now < risen before
 
 -- what a watch tells grew by these events; one that doesn't tell still doesn't
 abbrev pub Grew : Option (List Event) → List Event → Option (List Event) → Type 0

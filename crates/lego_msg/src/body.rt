@@ -1,3 +1,5 @@
+//! What messages say.
+
 use crate::place::{Place, Role, Why};
 use lego_base::{
     AreaRuns, Bytes, FileNo, HomeEntry, LineNo, MemId, NameEntry, PageImage, Patch, Perms, Pid,
@@ -7,7 +9,7 @@ use lego_base::{
 /// What a message says. The first group are requests to memories, the second requests to storage, the
 /// third what a memory and storage say to each other, the fourth answers. Block numbers count blocks of
 /// 4096 bytes of a file; `off` is in bytes into the block, `len` and `size` are in bytes.
-#[derive(Debug, Drop)]
+#[derive(Clone, Debug, Drop)]
 pub enum Body {
     // To memories.
     /// Who owns the region?

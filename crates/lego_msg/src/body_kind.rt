@@ -1,3 +1,5 @@
+//! The names of the kinds of messages, as traces have them.
+
 ghost use Rattle.std.specs.Prelude.{◌≡◌};
 ghost use Rattle.lego_msg.specs.Kinds.{kind_of};
 

@@ -1,4 +1,7 @@
-ghost use Rattle.std.specs.Prelude.{◌≡◌, ◌∷◌, [], None};
+//! A watch that tells nothing.
+
+ghost use Rattle.std.specs.Prelude.{◌≡◌, ◌∷◌, [], List, None, IsTrue, true};
+ghost use Rattle.lego_msg.specs.declared.event.Event.{Event as Happened};
 ghost use Rattle.lego_msg.specs.Watching.{Shown};
 
 use crate::event::Event;
@@ -15,6 +18,13 @@ impl Watch for CountWatch {
 
     fn see(&mut self, event: &Event) {
         let _event = event;
+    }
+
+    fn is_quiet(&self) -> bool
+        ensures quiet { IsTrue result → (events : List Happened) → Shown None 0 None 0 events }
+        ensures always { result ≡ true }
+    {
+        true
     }
 
     fn faults(&self) -> u64 {

@@ -1,11 +1,10 @@
-ghost use Rattle.std.specs.Prelude.{◌≡◌, IfOk};
+//! Events: what happens in a run, as a watch sees it.
 
 use crate::message::Message;
-use lego_base::{Bytes, CpuId, LineNo, MemId, NoMemory, OpNo, Pid};
-use std::alloc::Global;
+use lego_base::{Bytes, CpuId, LineNo, MemId, OpNo, Pid};
 
 /// Something that happened in a run, as a watch sees it.
-#[derive(Debug, Drop)]
+#[derive(Clone, Debug, Drop)]
 pub enum Event {
     /// A turn begins. Turn 0 is booting and has pid 0.
     Turn {
@@ -66,56 +65,4 @@ pub enum Kind {
     CopyOut,
     /// A test of a line, without bytes.
     Probe,
-}
-
-impl Event {
-    /// A copy of the event.
-    pub fn copy(&self, alloc: Global) -> Result<Event, NoMemory>
-        ensures { IfOk result (λ event. event ≡ self.now) }
-    {
-        match self {
-            Event::Turn { number, pid } => Ok(Event::Turn {
-                number: *number,
-                pid: *pid,
-            }),
-            Event::Access {
-                cpu,
-                pid,
-                address,
-                kind,
-                bytes,
-            } => Ok(Event::Access {
-                cpu: *cpu,
-                pid: *pid,
-                address: *address,
-                kind: *kind,
-                bytes: bytes.copy(alloc)?,
-            }),
-            Event::Fill {
-                pid,
-                address,
-                bytes,
-            } => Ok(Event::Fill {
-                pid: *pid,
-                address: *address,
-                bytes: bytes.copy(alloc)?,
-            }),
-            Event::Drop { cpu, pid, line } => Ok(Event::Drop {
-                cpu: *cpu,
-                pid: *pid,
-                line: *line,
-            }),
-            Event::Send(message) => Ok(Event::Send(message.copy(alloc)?)),
-            Event::Deliver(message) => Ok(Event::Deliver(message.copy(alloc)?)),
-            Event::Crash { memory, inc } => Ok(Event::Crash {
-                memory: *memory,
-                inc: *inc,
-            }),
-            Event::Complete(op) => Ok(Event::Complete(*op)),
-            Event::Out { stream, bytes } => Ok(Event::Out {
-                stream: *stream,
-                bytes: bytes.copy(alloc)?,
-            }),
-        }
-    }
 }

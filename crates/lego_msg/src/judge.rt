@@ -1,8 +1,9 @@
+//! What the list of events alone says of an operation, and of the delivery list, in plain code.
+
 ghost use Rattle.std.specs.Prelude.{◌≡◌, false};
-ghost use Rattle.lego_msg.specs.declared.place.Place.TheVariants.{Processor, Memory, Storage, Manager};
 ghost use Rattle.lego_msg.specs.Places.{same_place as is_same_place, is_issuer as is_issuing};
 ghost use Rattle.lego_msg.specs.Track.{is_pending as is_op_pending};
-ghost use Rattle.lego_msg.specs.Run.{stops as is_stop};
+ghost use Rattle.lego_msg.specs.Deliveries.{stops as is_stop};
 ghost use Rattle.lego_msg.specs.Judged.{place_picked, is_reaction as is_reacting, is_answer as is_answering, answered_after, has_answered_in, all_answered_in, is_complete_in};
 
 use crate::body::Body;
@@ -11,8 +12,8 @@ use crate::message::Message;
 use crate::place::{Place, Why};
 use lego_base::OpNo;
 
-/// Which of so many pending messages the delivery list picks for the delivery with this number, from 0. `None`
-/// exactly where nothing is pending or the list is empty.
+/// The place in the list of pending messages that the delivery list picks for the delivery with this number, from
+/// 0, where `pending` messages are pending. `None` exactly where nothing is pending or the list is empty.
 pub fn picked(deliveries: &[u32], number: u64, pending: usize) -> Option<usize>
     ensures { result ≡ place_picked deliveries.now number pending }
 {
@@ -54,24 +55,16 @@ pub fn is_complete(
 pub fn is_pending(op: OpNo, pending: &[Message]) -> bool
     ensures { result ≡ is_op_pending op.0 pending.now }
 {
-    for message in pending {
-        if message.op.0 == op.0 {
-            return true;
-        }
-    }
-    false
+    pending.iter().any(|message| message.op.0 == op.0)
 }
 
 // Whether each target has answered since its last crash.
 fn have_answered(op: OpNo, write: bool, targets: &[Place], events: &[Event]) -> bool
     ensures { result ≡ all_answered_in op.0 write targets.now events.now }
 {
-    for target in targets {
-        if !has_answered(op, write, *target, events) {
-            return false;
-        }
-    }
-    true
+    targets
+        .iter()
+        .all(|target| has_answered(op, write, *target, events))
 }
 
 // Whether a place has answered after one more event.
@@ -79,10 +72,9 @@ fn after_event(op: OpNo, write: bool, place: Place, answered: bool, event: &Even
     ensures { result ≡ answered_after op.0 write place answered event.now }
 {
     match event {
-        Event::Deliver(message) => return is_answer(op, write, place, message) || answered,
-        Event::Crash { memory, .. } => return !same_place(place, Place::Memory(*memory))
-            && answered,
-        _ => return answered,
+        Event::Deliver(message) => is_answer(op, write, place, message) || answered,
+        Event::Crash { memory, .. } => place != Place::Memory(*memory) && answered,
+        _ => answered,
     }
 }
 
@@ -100,85 +92,25 @@ fn is_answer(op: OpNo, write: bool, place: Place, message: &Message) -> bool
 fn is_issuer(place: Place) -> bool
     ensures { result ≡ is_issuing place }
 {
-    match place {
-        Place::Processor(_) => return true,
-        Place::Memory(_) => return false,
-        Place::Storage => return false,
-        Place::Manager => return true,
-    }
+    matches!(place, Place::Processor(_) | Place::Manager)
 }
 
 fn same_place(a: Place, b: Place) -> bool
     ensures { result ≡ is_same_place a b }
 {
-    match a {
-        Place::Processor(cpu) => return is_processor(cpu.0, b),
-        Place::Memory(memory) => return is_memory(memory.0, b),
-        Place::Storage => return is_storage(b),
-        Place::Manager => return is_manager(b),
-    }
+    a == b
 }
 
-fn is_processor(number: u32, place: Place) -> bool
-    ensures { result ≡ is_same_place (Processor (record { 0 = number })) place }
-{
-    match place {
-        Place::Processor(cpu) => return number == cpu.0,
-        Place::Memory(_) => return false,
-        Place::Storage => return false,
-        Place::Manager => return false,
-    }
-}
-
-fn is_memory(number: u32, place: Place) -> bool
-    ensures { result ≡ is_same_place (Memory (record { 0 = number })) place }
-{
-    match place {
-        Place::Processor(_) => return false,
-        Place::Memory(memory) => return number == memory.0,
-        Place::Storage => return false,
-        Place::Manager => return false,
-    }
-}
-
-fn is_storage(place: Place) -> bool
-    ensures { result ≡ is_same_place Storage place }
-{
-    match place {
-        Place::Processor(_) => return false,
-        Place::Memory(_) => return false,
-        Place::Storage => return true,
-        Place::Manager => return false,
-    }
-}
-
-fn is_manager(place: Place) -> bool
-    ensures { result ≡ is_same_place Manager place }
-{
-    match place {
-        Place::Processor(_) => return false,
-        Place::Memory(_) => return false,
-        Place::Storage => return false,
-        Place::Manager => return true,
-    }
-}
-
+// Whether the issuer of a write reacts to the body, so that it isn't an answer.
 fn is_reaction(write: bool, body: &Body) -> bool
     ensures { result ≡ is_reacting write body.now }
 {
-    match body {
-        Body::LogFull => return write,
-        Body::Drained => return write,
-        _ => return false,
-    }
+    write && matches!(body, Body::LogFull | Body::Drained)
 }
 
+// Whether the body is a refusal that stops the run.
 fn stops(body: &Body) -> bool
     ensures { result ≡ is_stop body.now }
 {
-    match body {
-        Body::Refused(Why::Full) => return true,
-        Body::Refused(Why::StoreFull) => return true,
-        _ => return false,
-    }
+    matches!(body, Body::Refused(Why::Full | Why::StoreFull))
 }

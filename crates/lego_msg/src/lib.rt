@@ -7,33 +7,37 @@
 //! at the functions of `laws`; docs/SPLIT.md explains all of it. `specs/Watching` has the watch's promise.
 #![tactic(auto)]
 
-mod body; // what messages say
-mod body_copy; // copies of it
-mod body_kind; // names of its kinds
-mod copies; // copies of lists
-mod count_watch; // a watch that tells nothing
-mod event; // what happened
-mod judge; // what the list of events alone decides
-mod laws; // what a reader may ask of legal lists
-mod list_watch; // a watch in memory
-mod message; // from, to, operation, body
-mod outbox; // what a component sends
-mod place; // components
-mod watch; // who sees events
+mod body;
+mod body_kind;
+mod clock;
+mod count_watch;
+mod event;
+mod healing;
+mod judge;
+mod laws;
+mod list_watch;
+mod message;
+mod operation;
+mod outbox;
+mod place;
+mod watch;
 
 pub use body::Body;
+pub use clock::Clock;
 pub use count_watch::CountWatch;
 pub use event::{Event, Kind};
+pub use healing::{Healing, Move};
 pub use judge::{has_answered, is_complete, is_pending, picked};
 pub use laws::{
     completions_are_by_the_list, completions_are_due, completions_are_first, crashes_are_due,
     crashes_stand_at_their_moment, deliveries_are_picked, legal_lists_are_cut_and_joined,
     one_event_may_come, others_send_what_they_owe, played_lists_are_legal,
-    rest_is_a_case_of_the_middle, sends_follow_their_delivery, shown_as_due, shown_runs_are_joined,
-    the_beginning_is_at_rest, the_next_event_may_come,
+    sends_follow_their_delivery, shown_as_due, shown_runs_are_joined, steps_compose,
+    the_next_event_may_come,
 };
 pub use list_watch::ListWatch;
 pub use message::Message;
+pub use operation::{Answer, Open, Operation, Origin};
 pub use outbox::Outbox;
 pub use place::{Place, Role, Why};
 pub use watch::Watch;

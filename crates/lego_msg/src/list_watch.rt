@@ -1,5 +1,8 @@
+//! A watch in memory.
+
 ghost use Rattle.std.specs.Prelude.{◌≡◌, ◌≤◌, ◌⊎◌, ◌∷◌, [], ◌++◌, true, false, IfOk, OnOk, OnErr, Some};
-ghost use Rattle.lego_msg.specs.Watching.{Shown, risen};
+ghost use Rattle.lego_msg.specs.Watching.{Shown};
+ghost use Rattle.lego_base.specs.Counts.{risen};
 ghost use Rattle.lego_msg.specs.ListWatched.{nothing_seen, next_call, is_to_fail, added, failed};
 
 use crate::event::Event;
@@ -8,11 +11,10 @@ use lego_base::{NoMemory, Seq};
 use std::alloc::Global;
 use std::marker::Model;
 
-/// A watch in memory that holds the events. Its calls fail by a list, from the first fault on, and for want of
-/// memory.
+/// A watch in memory that holds the events. Its calls fail by a list, from the first fault on, and where
+/// memory runs out.
 #[derive(Debug, Drop)]
 pub struct ListWatch {
-    alloc: Global,
     events: Seq<Event>,
     fails: Seq<u64>, // numbers of calls, from 1
     made: u64, // calls, up to the type's end
@@ -34,7 +36,6 @@ impl ListWatch {
     {
         let fails = Vec::from_slice(alloc, fails)?;
         Ok(ListWatch {
-            alloc,
             events: Seq::new(alloc),
             fails: Seq::from_vec(fails),
             made: 0,
@@ -73,8 +74,7 @@ impl ListWatch {
         ensures ok { OnOk result (self.new ≡ record self.old { held = self.old.held ++ event.now ∷ [] }) }
         ensures err { OnErr result (self.new ≡ self.old) }
     {
-        let copy = event.copy(self.alloc)?;
-        self.events.push(copy)?;
+        self.events.push(event.clone()?)?;
         Ok(())
     }
 }
@@ -84,8 +84,8 @@ impl Watch for ListWatch {
 
     ghost faults = { λ w. w.faults };
 
-    /// Adds the event, or fails: where its number is planned, where it failed before, and elsewhere only for want
-    /// of memory.
+    /// Adds the event, or fails: where its number is planned, where it failed before, and elsewhere only where
+    /// memory runs out.
     fn see(&mut self, event: &Event)
         ensures shown { Shown (Some self.old.held) self.old.faults (Some self.new.held) self.new.faults (event.now ∷ []) }
         ensures planned { is_to_fail self.old ≡ true → self.new ≡ failed self.old }

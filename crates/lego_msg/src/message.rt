@@ -1,9 +1,11 @@
-ghost use Rattle.std.specs.Prelude.{◌≡◌, IfOk};
+//! Messages between components.
+
+ghost use Rattle.std.specs.Prelude.{◌≡◌};
 
 use crate::body::Body;
 use crate::place::Place;
-use lego_base::{NoMemory, OpNo};
-use std::alloc::Global;
+use lego_base::OpNo;
+use std::alloc::AllocError;
 
 /// A message between components.
 #[derive(Debug, Drop)]
@@ -14,12 +16,11 @@ pub struct Message {
     pub body: Body,
 }
 
-impl Message {
-    /// A copy of the message.
-    pub fn copy(&self, alloc: Global) -> Result<Message, NoMemory>
-        ensures { IfOk result (λ message. message ≡ self.now) }
-    {
-        let body = self.body.copy(alloc)?;
+impl Clone for Message {
+    ghost is_clone = { λ message copy. copy ≡ message };
+
+    fn clone(&self) -> Result<Message, AllocError> {
+        let body = self.body.clone()?;
         Ok(Message {
             from: self.from,
             to: self.to,

@@ -1,3 +1,5 @@
+//! What a component sends.
+
 use crate::message::Message;
 use lego_base::Seq;
 

@@ -1,3 +1,5 @@
+//! Components, as messages name them.
+
 use lego_base::{CpuId, MemId};
 
 /// Where a message comes from and where it goes.

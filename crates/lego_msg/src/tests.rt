@@ -1,3 +1,5 @@
+//! Worked examples.
+
 use super::*;
 use lego_base::{
     Area, HomeEntry, MemId, NoMemory, OpNo, Perms, Pid, RegionNo, Seq, SpaceAreas, Vpn,

@@ -1,4 +1,7 @@
-ghost use Rattle.std.specs.Prelude.{◌≡◌, ◌∷◌, []};
+//! Who sees the events of a run.
+
+ghost use Rattle.std.specs.Prelude.{◌≡◌, ◌∷◌, [], List, IsTrue};
+ghost use Rattle.lego_msg.specs.declared.event.Event.{Event as Happened};
 ghost use Rattle.lego_msg.specs.Watching.{ShownTo};
 
 use crate::event::Event;
@@ -17,6 +20,13 @@ pub trait Watch {
     /// Sees an event: adds it to what is told, or adds nothing and fails.
     fn see(&mut self, event: &Event)
         ensures { ShownTo told faults self.old self.new (event.now ∷ []) };
+
+    /// Whether it need not be shown anything: it tells nothing and never fails.
+    fn is_quiet(&self) -> bool
+        ensures { IsTrue result → (events : List Happened) → ShownTo told faults self.now self.now events }
+    {
+        false
+    }
 
     /// How often it failed.
     fn faults(&self) -> u64

@@ -1,0 +1,2 @@
+mod CacheRows
+pub mod Ends

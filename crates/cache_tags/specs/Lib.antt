@@ -1,0 +1,2 @@
+pub mod CacheRule
+pub mod Laws

@@ -1,5 +1,0 @@
-use Rattle.lego_msg.proofs.Resting.{rest-is-middle}
-use Rattle.lego_msg.proofs.laws.rest_is_a_case_of_the_middle.Goals as goal
-
-pub returns : goal.returns
-returns c = rest-is-middle

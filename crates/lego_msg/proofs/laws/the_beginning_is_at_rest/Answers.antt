@@ -1,5 +1,0 @@
-use Rattle.lego_msg.proofs.Resting.{start-rests}
-use Rattle.lego_msg.proofs.laws.the_beginning_is_at_rest.Goals as goal
-
-pub returns : goal.returns
-returns c = start-rests
