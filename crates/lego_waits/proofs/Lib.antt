@@ -1,0 +1,9 @@
+pub mod Totals
+pub mod Ranks
+pub mod Weights
+pub mod Handles
+pub mod Falls
+pub mod InPlace
+pub mod Arrivals
+pub mod Losses
+pub mod Waits
