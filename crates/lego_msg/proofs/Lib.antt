@@ -12,4 +12,4 @@ pub mod Coming
 pub mod Going
 pub mod Issuing
 pub mod Rows
-mod MoreRows
+pub mod MoreRows

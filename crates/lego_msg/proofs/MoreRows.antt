@@ -24,10 +24,10 @@ use Rattle.lego_msg.specs.declared.place.Place.TheVariants.{Manager, Storage}
 
 -- FILES: a file is made and written, read twice, cut, and goes
 
-abbrev file0 : FileNo
+abbrev pub file0 : FileNo
 file0 = record { 0 = 0 }
 
-abbrev file_marks : List Mark
+abbrev pub file_marks : List Mark
 file_marks =
     Show (Turn 0 (record { 0 = 0 }))
     ∷ Call (order Manager (MakesName (codes "f")))
@@ -38,7 +38,7 @@ file_marks =
     ∷ Call (order Manager (AsksSize file0))
     ∷ []
 
-abbrev filing : Track
+abbrev pub filing : Track
 filing = start (two (0 ∷ []) []) file_marks
 
 abbrev filed : Track
@@ -87,23 +87,23 @@ one_byte = refl
 
 -- A FORK, an unmapping and the end of a space: process 2 is the child of process 1
 
-abbrev pid2 : Pid
+abbrev pub pid2 : Pid
 pid2 = record { 0 = 2 }
 
-abbrev fork_marks : List Mark → List Mark
+abbrev pub fork_marks : List Mark → List Mark
 fork_marks due =
     Call (record (order cpu0 (Drains (mem 1))) { owners = record { pid = pid2; region = region 0; owner = mem 0 } ∷ [] })
     ∷ Call (order cpu0 (SetsHome pid2 (region 0) (mem 0)))
     ∷ Call (order cpu0 (Copies pid1 pid2 (region 0 ∷ []) (mem 0)))
     ∷ due
 
-abbrev unmap_marks : List Mark → List Mark
+abbrev pub unmap_marks : List Mark → List Mark
 unmap_marks due = Call (order cpu0 (Drains (mem 1))) ∷ Call (order cpu0 (Unmaps pid1 (region 0) (record { 0 = 16 }) 1 [] (mem 0))) ∷ due
 
-abbrev drop_marks : List Mark
+abbrev pub drop_marks : List Mark
 drop_marks = Call (order cpu0 (Drains (mem 0))) ∷ Call (order cpu0 (Drains (mem 1))) ∷ Call (order cpu0 (Drops pid2)) ∷ []
 
-abbrev begun_with : List Mark → Track
+abbrev pub begun_with : List Mark → Track
 begun_with due = start (two (0 ∷ []) []) (map_marks (fill_marks 7 due))
 
 abbrev ended_with : List Mark → Track
@@ -163,7 +163,7 @@ legal_fork = played-is-legal 150 (begun_with (fork_marks (unmap_marks drop_marks
 
 -- THE LOSS OF THE OWNER, after it wrote the page: storage and the secondary give it back
 
-abbrev owner_lost : Track
+abbrev pub owner_lost : Track
 owner_lost = one_fill (crash_after 10 0)
 
 owner_healed : first_byte (slice_get (run owner_lost (played 150 owner_lost)).mems 0) 1 ≡ Some 7

@@ -160,7 +160,7 @@ two deliveries crashes = record {
   crashes = crashes;
 }
 
-abbrev byte_patch : ℕ → Patch
+abbrev pub byte_patch : ℕ → Patch
 byte_patch byte = record { pid = pid1; vpn = record { 0 = 16 }; off = 0; bytes = byte ∷ [] }
 
 abbrev pub map_marks : List Mark → List Mark
@@ -177,7 +177,7 @@ fill_marks byte due = Show (Fill pid1 0x10000 (byte ∷ [])) ∷ Call (order Man
 abbrev newest : List ℕ
 newest = 2519 ∷ []
 
-abbrev two_fills : Track
+abbrev pub two_fills : Track
 two_fills = start (two newest []) (map_marks (fill_marks 7 (fill_marks 8 [])))
 
 -- The first patch fills the log, and its batch goes out at once. The second one finds no room: a drain is asked
@@ -282,19 +282,19 @@ healed_byte = refl
 -- REFUSED: at each of these points another event may come, and not the one that a wrong body would show
 
 -- one byte is filled in; the first so many events of it
-abbrev filling : ℕ → Track
+abbrev pub filling : ℕ → Track
 filling n = run (one_fill []) (played n (one_fill []))
 
-abbrev log_write : Message
+abbrev pub log_write : Message
 log_write = record { from = Manager; to = memory 1; op = record { 0 = 3 }; body = body.LogWrite (byte_patch 7) }
 
 abbrev write : Message
 write = record { from = Manager; to = memory 0; op = record { 0 = 3 }; body = body.Write (byte_patch 7) }
 
-abbrev wrote : Message
+abbrev pub wrote : Message
 wrote = record { from = memory 1; to = Manager; op = record { 0 = 3 }; body = body.Wrote }
 
-abbrev op3 : OpNo
+abbrev pub op3 : OpNo
 op3 = record { 0 = 3 }
 
 -- the length of a kind's name tells these messages apart

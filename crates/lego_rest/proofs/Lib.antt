@@ -1,1 +1,2 @@
 pub mod Resting
+mod Rows

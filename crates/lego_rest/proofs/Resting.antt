@@ -19,7 +19,7 @@ use Rattle.lego_rest.specs.Pending.{MayPend}
 use Rattle.lego_rest.specs.Rest.{AtRest, CurrentFits, MemHolds, MemRests, Middle}
 use Rattle.lego_msg.specs.declared.place.Place.TheVariants as place
 
-none_some : {X : Type 0} (x : X) → None ≡ Some x → ⊥
+pub none_some : {X : Type 0} (x : X) → None ≡ Some x → ⊥
 none_some x e = cc e
 
 same_either : {X : Type 0} (b : Bool) (x : X) → cond b x x ≡ x
