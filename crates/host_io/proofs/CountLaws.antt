@@ -1,7 +1,7 @@
 -- Laws of the counts of faults.
 use Rattle.std.proofs.Common.{◌≡◌, ℕ, ◌+◌, ◌-◌, ◌^◌, ◌<◌, ◌≤◌, min, ◌⊎◌, Result, Ok, Err, arith}
 use Rattle.std.proofs.lemmas.Bool.{cases_lt}
-use Rattle.host_io.specs.Counts.{risen, Rose, Calm, HasCause}
+use Rattle.lego_base.specs.Counts.{risen, Rose, Calm, HasCause}
 
 pub Rose-later : (a b c : ℕ) → Rose a b → b ≤ c → Rose a c
 Rose-later a b c rose later = omega arith

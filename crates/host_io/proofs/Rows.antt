@@ -1,6 +1,6 @@
 -- Worked examples, by evaluation.
 use Rattle.std.proofs.Common.{◌≡◌, ◌-◌, ◌^◌, [], ◌∷◌, Some, None, true, false, refl, lit≤, lit<}
-use Rattle.host_io.specs.Counts.{risen, Rose, Calm}
+use Rattle.lego_base.specs.Counts.{risen, Rose, Calm}
 use Rattle.host_io.specs.Sinks.{TookAll, TookFront}
 use Rattle.host_io.specs.Sources.{Gave}
 use Rattle.host_io.specs.Depots.{no_files, with_entry}

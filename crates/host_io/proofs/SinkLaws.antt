@@ -2,7 +2,7 @@
 -- no caller asks whether a sink tells.
 use Rattle.std.proofs.Common.{◌≡◌, ℕ, ◌<◌, ◌≤◌, List, [], ◌++◌, length, take, drop, Option, Some, None, Result, Ok, Err, OnOk, OnErr, refl, sym, ap, subst, ◌∙◌, append_assoc, length-append, arith}
 use Rattle.std.proofs.lemmas.List.{append-nil, take-append-drop}
-use Rattle.host_io.specs.Sinks.{TookAll, TookSome, TookFront}
+use Rattle.host_io.specs.Sinks.{SinkState, TookAll, TookSome, TookFront}
 
 -- nothing taken is all of the empty piece
 pub TookAll-none : (a b : Option (List ℕ)) → b ≡ a → TookAll a b []
@@ -80,23 +80,23 @@ pub TookFront-none : (a b : Option (List ℕ)) (xs : List ℕ) → 0 < length xs
 TookFront-none a b xs more same = record { front = []; rest = xs; more = more; whole = refl; took = TookAll-none a b same }
 
 -- A loop of writes has come so far: what is left of the piece, and what was appended.
-pub record WroteSoFar (old now : Option (List ℕ)) (before since : ℕ) (bytes rest : List ℕ) : Type 0 where
-  pub later : before ≤ since
+pub record WroteSoFar (before after : SinkState) (bytes rest : List ℕ) : Type 0 where
+  pub later : before.faults ≤ after.faults
   pub front : List ℕ
   pub parts : front ++ rest ≡ bytes
-  pub took : TookAll old now front
+  pub took : TookAll before.held after.held front
 
 -- it begins
-pub wrote_nothing : (a b : Option (List ℕ)) (before since : ℕ) (bytes : List ℕ) → b ≡ a → before ≤ since → WroteSoFar a b before since bytes bytes
-wrote_nothing a b before since bytes same later = record { later = later; front = []; parts = refl; took = TookAll-none a b same }
+pub wrote_nothing : (state : SinkState) (bytes : List ℕ) → WroteSoFar state state bytes bytes
+wrote_nothing state bytes = record { later = omega arith; front = []; parts = refl; took = TookAll-none state.held state.held refl }
 
 -- one write more
-pub wrote_more : (a b c : Option (List ℕ)) (before mid since : ℕ) (bytes rest : List ℕ) (n : ℕ) → WroteSoFar a b before mid bytes rest → mid ≤ since → TookAll b c (take n rest) → WroteSoFar a c before since bytes (drop n rest)
-wrote_more a b c before mid since bytes rest n so later now = record {
+pub wrote_more : (a b c : SinkState) (bytes rest : List ℕ) (n : ℕ) → WroteSoFar a b bytes rest → b.faults ≤ c.faults → TookAll b.held c.held (take n rest) → WroteSoFar a c bytes (drop n rest)
+wrote_more a b c bytes rest n so later now = record {
   later = omega (arith, so.later);
   front = so.front ++ take n rest;
   parts = append_assoc so.front (take n rest) (drop n rest) ∙ (ap (λ (l : List ℕ). so.front ++ l) (take-append-drop n rest) ∙ so.parts);
-  took = TookAll-append a b c so.front (take n rest) so.took now;
+  took = TookAll-append a.held b.held c.held so.front (take n rest) so.took now;
 }
 
 -- what `write_all` says in one: some of the piece was taken in any case

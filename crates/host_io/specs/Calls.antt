@@ -2,7 +2,7 @@
 -- the count of faults.
 use Rattle.std.specs.Prelude.{ℕ, ◌+◌, ◌-◌, ◌^◌, min, Bool, true, false, ◌==◌, List}
 use Rattle.std.specs.List.{list_any}
-use Rattle.host_io.specs.Counts.{risen}
+use Rattle.lego_base.specs.Counts.{risen}
 
 pub record Calls : Type 0 where
   pub fails : List ℕ

@@ -6,6 +6,11 @@ use Rattle.std.specs.Str.{bytes_eq}
 abbrev pub Files : Type 0
 Files = List ℕ → Option (List ℕ)
 
+-- what a depot tells: the bytes under each name, unless it doesn't tell them, and how often it failed
+pub record DepotState : Type 0 where
+  pub files : Option Files
+  pub faults : ℕ
+
 -- a depot with no entry
 abbrev pub no_files : Files
 no_files name = None

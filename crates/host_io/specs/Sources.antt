@@ -2,6 +2,11 @@
 -- doesn't.
 use Rattle.std.specs.Prelude.{◌≡◌, ℕ, ◌+◌, ◌<◌, ◌≤◌, ◌↔◌, List, [], ◌++◌, length, take, Option, Some, None, Result, IfOk, OnErr}
 
+-- what a source tells: the bytes that are left, in order, unless it doesn't tell them, and how often it failed
+pub record SourceState : Type 0 where
+  pub left : Option (List ℕ)
+  pub faults : ℕ
+
 -- These bytes were the first ones left, and they were taken.
 abbrev pub Gave : Option (List ℕ) → Option (List ℕ) → List ℕ → Type 0
 Gave None new bytes = new ≡ None

@@ -1,5 +1,7 @@
+//! A source in memory that never fails.
+
 ghost use Rattle.std.specs.Prelude.{◌≡◌, Some, length, take, min, IfOk, IsOk};
-ghost use Rattle.host_io.specs.Counts.{HasCause};
+ghost use Rattle.lego_base.specs.Counts.{HasCause};
 ghost use Rattle.host_io.specs.Sources.{Moved};
 
 use crate::failed::Failed;
@@ -38,9 +40,7 @@ impl CalmSource {
 impl Source for CalmSource {
     ghost use Rattle.std.specs.Prelude.{Some};
 
-    ghost left = { λ s. Some s };
-
-    ghost faults = { λ _. 0 };
+    ghost state = { λ s. record { left = Some s; faults = 0 } };
 
     fn read(&mut self, buf: &mut [u8]) -> Result<usize, Failed>
         ensures cause { HasCause 0 0 result }
@@ -54,7 +54,7 @@ impl Source for CalmSource {
     }
 }
 
-// Copies as many first bytes as fit, and says how many.
+// Copies the first bytes, as many as fit, and returns their number.
 fn copy_front(left: &[u8], buf: &mut [u8]) -> usize
     ensures count { result ≡ min (length left.now) (length buf.old) }
     ensures bytes { take result buf.new ≡ take result left.now }

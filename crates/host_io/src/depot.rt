@@ -1,5 +1,7 @@
+//! Named files.
+
 ghost use Rattle.std.specs.Prelude.{◌≡◌, ◌≤◌};
-ghost use Rattle.host_io.specs.Counts.{HasCause};
+ghost use Rattle.lego_base.specs.Counts.{HasCause};
 ghost use Rattle.host_io.specs.Depots.{Put};
 
 use crate::failed::Failed;
@@ -21,24 +23,20 @@ pub enum Got {
 
 /// Named files, as a host's folder.
 pub trait Depot {
-    ghost use Rattle.std.specs.Prelude.{ℕ, Option};
-    ghost use Rattle.host_io.specs.Depots.{Files};
+    ghost use Rattle.host_io.specs.Depots.{DepotState};
     ghost use Rattle.host_io.specs.Looked.{Looked};
 
-    // The bytes under each name. `None` where the depot doesn't tell.
-    ghost files: { Self → Option Files };
-
-    // How often the depot failed.
-    ghost faults: { Self → ℕ };
+    // What the depot tells.
+    ghost state: { Self → DepotState };
 
     /// The bytes under the name.
     fn get(&mut self, alloc: Global, name: &str) -> Got
-        ensures later { faults self.old ≤ faults self.new }
-        ensures same { files self.new ≡ files self.old }
-        ensures looked { Looked (files self.old) (faults self.old) (faults self.new) name.now result };
+        ensures later { (state self.old).faults ≤ (state self.new).faults }
+        ensures same { (state self.new).files ≡ (state self.old).files }
+        ensures looked { Looked (state self.old) (state self.new) name.now result };
 
-    /// Puts these bytes under the name. Where the depot fails, this entry alone may have changed.
+    /// Puts these bytes under the name. If the depot fails, this entry alone may have changed.
     fn put(&mut self, name: &str, bytes: &[u8]) -> Result<(), Failed>
-        ensures cause { HasCause (faults self.old) (faults self.new) result }
-        ensures put { Put (files self.old) (files self.new) name.now bytes.now result };
+        ensures cause { HasCause (state self.old).faults (state self.new).faults result }
+        ensures put { Put (state self.old).files (state self.new).files name.now bytes.now result };
 }

@@ -1,6 +1,8 @@
+//! Which calls of an object in memory fail.
+
 ghost use Rattle.std.specs.Prelude.{◌≡◌, ◌≤◌, not, IfOk};
 ghost use Rattle.host_io.specs.Calls.{untried, is_due, counted};
-ghost use Rattle.host_io.specs.Counts.{risen};
+ghost use Rattle.lego_base.specs.Counts.{risen};
 
 use lego_base::{NoMemory, Seq};
 use std::alloc::Global;

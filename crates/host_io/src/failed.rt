@@ -1,3 +1,5 @@
+//! The one error of the outside world.
+
 use thiserror::Error;
 
 /// The host refused a call. The object's count of faults rose.

@@ -1,12 +1,14 @@
+//! The files of a runtime as a depot.
+
 ghost use Rattle.std.specs.Prelude.{◌≡◌, ◌≤◌, None, is_ok, if◌then◌else◌};
-ghost use Rattle.host_io.specs.Counts.{risen, HasCause};
+ghost use Rattle.lego_base.specs.Counts.{risen, HasCause};
 ghost use Rattle.host_io.specs.Depots.{Put};
 
 use crate::depot::{Depot, Got};
 use crate::failed::Failed;
 use crate::reading::{InputStop, read_front};
 use crate::std_source::StdSource;
-use lego_base::Bytes;
+use lego_base::{Bytes, LONGEST_FILE};
 use std::alloc::Global;
 use std::fs;
 use std::io::{ErrorKind, Read};
@@ -29,10 +31,6 @@ impl<R> Model for FileDepot<R> {
     ghost view = { λ d. d.faults };
 }
 
-// The longest file that is read whole, in bytes. Of a longer one one byte more is read, which shows that
-// it is longer.
-const LONGEST: usize = 16_777_216;
-
 impl<R> FileDepot<R> {
     /// A depot of this runtime's files.
     pub fn new(files: R) -> FileDepot<R>
@@ -53,15 +51,13 @@ impl<R: Files> Depot for FileDepot<R> {
     ghost use Rattle.std.specs.Prelude.{None};
     ghost use Rattle.host_io.specs.Looked.{Looked, count_after};
 
-    ghost files = { λ _. None };
-
-    ghost faults = { λ d. d };
+    ghost state = { λ d. record { files = None; faults = d } };
 
     /// Missing where opening ends as not found. Failed at every other error of opening or reading. Of a
-    /// file of more than 16777216 bytes it gives the first 16777217.
+    /// file of more than `LONGEST_FILE` bytes it gives one byte more than that, which shows that it is longer.
     fn get(&mut self, alloc: Global, name: &str) -> Got
         ensures later { self.old ≤ self.new }
-        ensures looked { Looked None self.old self.new name.now result }
+        ensures looked { Looked (record { files = None; faults = self.old }) (record { files = None; faults = self.new }) name.now result }
         ensures counted { self.new ≡ count_after result self.old }
     {
         let got = match fs::open(&self.files, name) {
@@ -91,10 +87,10 @@ impl<R: Files> Depot for FileDepot<R> {
     }
 }
 
-// The bytes of an open file, up to one more than `LONGEST`.
+// The bytes of an open file, up to one more than `LONGEST_FILE`.
 fn read_file<F: Read + Drop>(alloc: Global, file: F) -> Got {
     let mut source = StdSource::new(file);
-    let bytes = match read_front(alloc, &mut source, LONGEST) {
+    let bytes = match read_front(alloc, &mut source, LONGEST_FILE) {
         Ok(bytes) => bytes,
         Err(InputStop::NoMemory) => return Got::NoMemory,
         Err(_) => return Got::Failed,

@@ -1,5 +1,7 @@
+//! A depot in memory.
+
 ghost use Rattle.std.specs.Prelude.{◌≡◌, ◌≤◌, ◌↔◌, [], ◌∷◌, ◌++◌, true, not, length, IfOk, OnOk, OnErr, is_ok, IsErr, MatchOption};
-ghost use Rattle.host_io.specs.Counts.{HasCause};
+ghost use Rattle.lego_base.specs.Counts.{HasCause};
 ghost use Rattle.host_io.specs.Depots.{Put, with_entry};
 ghost use Rattle.host_io.specs.Objects.{looked_up};
 ghost use Rattle.host_io.specs.Places.{NoneBefore, IsPlace};
@@ -12,7 +14,7 @@ use lego_base::{Bytes, FileOut, NoMemory};
 use std::alloc::Global;
 use std::marker::Model;
 
-/// A depot in memory whose calls fail by a list, or for want of memory.
+/// A depot in memory whose calls fail by a list, or because memory runs out.
 #[derive(Debug, Drop)]
 pub struct MemDepot {
     files: Vec<FileOut>, // the first entry of a name counts
@@ -28,7 +30,7 @@ impl Model for MemDepot {
 }
 
 impl MemDepot {
-    /// A depot with no entry. `fails` has the numbers, from 1, of the calls that are to fail.
+    /// A depot with no entry. `fails` has the numbers of the calls that are to fail, counted from 1.
     pub fn new(alloc: Global, fails: &[u64]) -> Result<MemDepot, NoMemory>
         ensures { IfOk result (λ d. d ≡ record { entries = []; calls = untried fails.now }) }
     {
@@ -49,18 +51,16 @@ impl MemDepot {
 
 impl Depot for MemDepot {
     ghost use Rattle.std.specs.Prelude.{Some};
-    ghost use Rattle.host_io.specs.Objects.{looked_up};
+    ghost use Rattle.host_io.specs.Objects.{looked_up, state_of};
     ghost use Rattle.host_io.specs.Looked.{Looked};
 
-    ghost files = { λ d. Some (looked_up d.entries) };
-
-    ghost faults = { λ d. d.calls.faults };
+    ghost state = { state_of };
 
     /// It fails just where its number is planned.
-    fn get(&mut self, alloc: Global, name: &str) -> Got
+    fn get(&mut self, _alloc: Global, name: &str) -> Got
         ensures later { self.old.calls.faults ≤ self.new.calls.faults }
         ensures same { Some (looked_up self.new.entries) ≡ Some (looked_up self.old.entries) }
-        ensures looked { Looked (Some (looked_up self.old.entries)) self.old.calls.faults self.new.calls.faults name.now result }
+        ensures looked { Looked (state_of self.old) (state_of self.new) name.now result }
         ensures planned { (result ≡ Got.Failed) ↔ (is_due self.old.calls ≡ true) }
         ensures counted { self.new.calls ≡ counted (not (is_due self.old.calls)) self.old.calls }
         ensures entries { self.new.entries ≡ self.old.entries }
@@ -69,7 +69,7 @@ impl Depot for MemDepot {
             return Got::Failed;
         }
         match place_of(self.files.as_slice(), name.as_bytes()) {
-            Some(at) => match self.files[at].bytes.copy(alloc) {
+            Some(at) => match self.files[at].bytes.clone() {
                 Ok(bytes) => Got::Found(bytes),
                 Err(_) => Got::NoMemory,
             },
@@ -77,7 +77,7 @@ impl Depot for MemDepot {
         }
     }
 
-    /// It fails where its number is planned, and elsewhere only for want of memory. Then nothing changed.
+    /// It fails where its number is planned, and elsewhere only if memory runs out. Then nothing changed.
     fn put(&mut self, name: &str, bytes: &[u8]) -> Result<(), Failed>
         ensures cause { HasCause self.old.calls.faults self.new.calls.faults result }
         ensures put { Put (Some (looked_up self.old.entries)) (Some (looked_up self.new.entries)) name.now bytes.now result }
@@ -111,7 +111,7 @@ fn place_of(files: &[FileOut], name: &[u8]) -> Option<usize>
     None
 }
 
-// Sets the bytes under the name. For want of memory nothing changes.
+// Sets the bytes under the name. If memory runs out, nothing changes.
 fn set_entry(
     alloc: Global,
     files: &mut Vec<FileOut>,
@@ -121,24 +121,18 @@ fn set_entry(
     ensures ok { OnOk result (looked_up files.new.items ≡ with_entry name.now (Some bytes.now) (looked_up files.old.items)) }
     ensures err { OnErr result (files.new.items ≡ files.old.items) }
 {
-    let bytes = match Bytes::from_slice(alloc, bytes) {
-        Ok(bytes) => bytes,
-        Err(_) => return Err(NoMemory),
-    };
+    let bytes = Bytes::from_slice(alloc, bytes)?;
     match place_of(files.as_slice(), name) {
         Some(at) => {
             let file = &mut files[at];
             file.bytes = bytes;
-            Ok(())
         }
-        None => match add_entry(alloc, files, name, bytes) {
-            Ok(()) => Ok(()),
-            Err(_) => Err(NoMemory),
-        },
+        None => add_entry(alloc, files, name, bytes)?,
     }
+    Ok(())
 }
 
-// Adds an entry. For want of memory nothing changes.
+// Adds an entry. If memory runs out, nothing changes.
 fn add_entry(
     alloc: Global,
     files: &mut Vec<FileOut>,
@@ -148,12 +142,7 @@ fn add_entry(
     ensures ok { OnOk result (files.new.items ≡ files.old.items ++ record { name = name.now; bytes = bytes } ∷ []) }
     ensures err { OnErr result (files.new.items ≡ files.old.items) }
 {
-    let name = match Bytes::from_slice(alloc, name) {
-        Ok(name) => name,
-        Err(_) => return Err(NoMemory),
-    };
-    match files.push(FileOut { name, bytes }) {
-        Ok(()) => Ok(()),
-        Err(_) => Err(NoMemory),
-    }
+    let name = Bytes::from_slice(alloc, name)?;
+    files.push(FileOut { name, bytes })?;
+    Ok(())
 }

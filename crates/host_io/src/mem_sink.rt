@@ -1,5 +1,7 @@
+//! A sink in memory.
+
 ghost use Rattle.std.specs.Prelude.{◌≡◌, ◌+◌, ◌<◌, [], true, false, length, IfOk, OnErr, is_ok, IsErr};
-ghost use Rattle.host_io.specs.Counts.{HasCause};
+ghost use Rattle.lego_base.specs.Counts.{HasCause};
 ghost use Rattle.host_io.specs.Sinks.{Took};
 ghost use Rattle.host_io.specs.Calls.{untried, is_due, counted};
 
@@ -10,7 +12,7 @@ use lego_base::NoMemory;
 use std::alloc::Global;
 use std::marker::Model;
 
-/// A sink in memory whose calls fail by a list, or for want of memory where it has no room.
+/// A sink in memory whose calls fail by a list, or because memory runs out where it has no room.
 #[derive(Debug, Drop)]
 pub struct MemSink {
     bytes: Vec<u8>,
@@ -30,8 +32,8 @@ impl Model for MemSink {
 }
 
 impl MemSink {
-    /// An empty sink with room for so many bytes. `fails` has the numbers, from 1, of the calls that are
-    /// to fail.
+    /// An empty sink with room for `room` bytes. `fails` has the numbers of the calls that are to fail,
+    /// counted from 1.
     pub fn new(alloc: Global, room: usize, fails: &[u64]) -> Result<MemSink, NoMemory>
         ensures { IfOk result (λ s. s ≡ record { held = []; room = room; calls = untried fails.now }) }
     {
@@ -58,12 +60,10 @@ impl MemSink {
 impl Sink for MemSink {
     ghost use Rattle.std.specs.Prelude.{Some};
 
-    ghost held = { λ s. Some s.held };
+    ghost state = { λ s. record { held = Some s.held; faults = s.calls.faults } };
 
-    ghost faults = { λ s. s.calls.faults };
-
-    /// Takes the whole piece, or fails. It fails where its number is planned, and elsewhere only for want
-    /// of memory past the room.
+    /// Takes all of `bytes`, or fails. It fails where its number is planned, and elsewhere only if memory
+    /// runs out past the room.
     fn write(&mut self, bytes: &[u8]) -> Result<usize, Failed>
         ensures cause { HasCause self.old.calls.faults self.new.calls.faults result }
         ensures took { Took (Some self.old.held) (Some self.new.held) bytes.now result }

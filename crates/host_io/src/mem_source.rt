@@ -1,5 +1,7 @@
+//! A source in memory whose calls fail by a list.
+
 ghost use Rattle.std.specs.Prelude.{◌≡◌, IfOk, is_ok};
-ghost use Rattle.host_io.specs.Counts.{HasCause};
+ghost use Rattle.lego_base.specs.Counts.{HasCause};
 ghost use Rattle.host_io.specs.Sources.{Moved};
 ghost use Rattle.host_io.specs.Calls.{untried, is_due, counted};
 
@@ -47,9 +49,7 @@ impl MemSource {
 impl Source for MemSource {
     ghost use Rattle.std.specs.Prelude.{Some, not};
 
-    ghost left = { λ s. Some s.left };
-
-    ghost faults = { λ s. s.calls.faults };
+    ghost state = { λ s. record { left = Some s.left; faults = s.calls.faults } };
 
     fn read(&mut self, buf: &mut [u8]) -> Result<usize, Failed>
         ensures cause { HasCause self.old.calls.faults self.new.calls.faults result }
@@ -62,7 +62,7 @@ impl Source for MemSource {
         }
         match self.source.read(buf) {
             Ok(count) => Ok(count),
-            Err(_) => unreachable!(),
+            Err(_) => unreachable!(), // a calm source never fails
         }
     }
 }

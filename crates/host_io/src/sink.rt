@@ -1,40 +1,35 @@
+//! Where bytes go.
+
 ghost use Rattle.std.specs.Prelude.{OnOk, OnErr};
-ghost use Rattle.host_io.specs.Counts.{HasCause};
+ghost use Rattle.lego_base.specs.Counts.{HasCause};
 ghost use Rattle.host_io.specs.Sinks.{Took, TookAll, TookFront};
 
 use crate::failed::Failed;
 
 /// Where bytes go, as a host's standard output.
 pub trait Sink {
-    ghost use Rattle.std.specs.Prelude.{ℕ, List, Option};
+    ghost use Rattle.host_io.specs.Sinks.{SinkState};
 
-    // The bytes that were taken, in order. `None` where the sink doesn't tell.
-    ghost held: { Self → Option (List ℕ) };
+    // What the sink tells.
+    ghost state: { Self → SinkState };
 
-    // How often the sink failed.
-    ghost faults: { Self → ℕ };
-
-    /// Appends so many first bytes of the piece, at least one where it has one.
+    /// Appends the first n bytes of `bytes` and returns n, which is at least 1 unless `bytes` is empty.
     fn write(&mut self, bytes: &[u8]) -> Result<usize, Failed>
-        ensures cause { HasCause (faults self.old) (faults self.new) result }
-        ensures took { Took (held self.old) (held self.new) bytes.now result };
+        ensures cause { HasCause (state self.old).faults (state self.new).faults result }
+        ensures took { Took (state self.old).held (state self.new).held bytes.now result };
 }
 
-/// Appends the whole piece. Where the sink fails, a proper prefix of the piece was appended.
+/// Appends all of `bytes`. If the sink fails, it has taken a proper prefix of them.
 pub fn write_all<K: Sink>(sink: &mut K, bytes: &[u8]) -> Result<(), Failed>
-    ensures cause { HasCause (K.faults sink.old) (K.faults sink.new) result }
-    ensures all { OnOk result (TookAll (K.held sink.old) (K.held sink.new) bytes.now) }
-    ensures front { OnErr result (TookFront (K.held sink.old) (K.held sink.new) bytes.now) }
+    ensures cause { HasCause (K.state sink.old).faults (K.state sink.new).faults result }
+    ensures all { OnOk result (TookAll (K.state sink.old).held (K.state sink.new).held bytes.now) }
+    ensures front { OnErr result (TookFront (K.state sink.old).held (K.state sink.new).held bytes.now) }
 {
     let mut rest = bytes;
     while !rest.is_empty() {
-        match sink.write(rest) {
-            Ok(count) => {
-                let (_, more) = rest.split_at(count);
-                rest = more;
-            }
-            Err(_) => return Err(Failed),
-        }
+        let count = sink.write(rest)?;
+        let (_, more) = rest.split_at(count);
+        rest = more;
     }
     Ok(())
 }

@@ -1,21 +1,20 @@
-ghost use Rattle.host_io.specs.Counts.{HasCause};
+//! Where bytes come from.
+
+ghost use Rattle.lego_base.specs.Counts.{HasCause};
 ghost use Rattle.host_io.specs.Sources.{Moved};
 
 use crate::failed::Failed;
 
 /// Where bytes come from, as a host's standard input.
 pub trait Source {
-    ghost use Rattle.std.specs.Prelude.{ℕ, List, Option};
+    ghost use Rattle.host_io.specs.Sources.{SourceState};
 
-    // The bytes that are left, in order. `None` where the source doesn't tell.
-    ghost left: { Self → Option (List ℕ) };
+    // What the source tells.
+    ghost state: { Self → SourceState };
 
-    // How often the source failed.
-    ghost faults: { Self → ℕ };
-
-    /// Moves the first bytes left to the start of the buffer, and says how many: none exactly where none
-    /// is left, if the buffer has room.
+    /// Moves the first n bytes left to the start of the buffer and returns n. If the buffer has room, n is
+    /// 0 only at the end.
     fn read(&mut self, buf: &mut [u8]) -> Result<usize, Failed>
-        ensures cause { HasCause (faults self.old) (faults self.new) result }
-        ensures moved { Moved (left self.old) (left self.new) buf.new result };
+        ensures cause { HasCause (state self.old).faults (state self.new).faults result }
+        ensures moved { Moved (state self.old).left (state self.new).left buf.new result };
 }

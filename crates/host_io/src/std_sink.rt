@@ -1,5 +1,7 @@
+//! A writer of std as a sink.
+
 ghost use Rattle.std.specs.Prelude.{◌≡◌, ◌≤◌, None, length, IfOk, is_ok, if◌then◌else◌};
-ghost use Rattle.host_io.specs.Counts.{risen, HasCause};
+ghost use Rattle.lego_base.specs.Counts.{risen, HasCause};
 ghost use Rattle.host_io.specs.Sinks.{Took};
 
 use crate::failed::Failed;
@@ -43,12 +45,10 @@ impl<W> StdSink<W> {
 impl<W: Write> Sink for StdSink<W> {
     ghost use Rattle.std.specs.Prelude.{None};
 
-    ghost held = { λ _. None };
+    ghost state = { λ s. record { held = None; faults = s } };
 
-    ghost faults = { λ s. s };
-
-    /// It fails where the writer or its flush does, and where the writer takes nothing of a piece that
-    /// isn't empty.
+    /// It fails where the writer or its flush does, and where the writer takes none of `bytes` though there
+    /// are some.
     fn write(&mut self, bytes: &[u8]) -> Result<usize, Failed>
         ensures cause { HasCause self.old self.new result }
         ensures took { Took None None bytes.now result }

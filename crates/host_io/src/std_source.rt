@@ -1,5 +1,7 @@
+//! A reader of std as a source.
+
 ghost use Rattle.std.specs.Prelude.{◌≡◌, None, is_ok, if◌then◌else◌};
-ghost use Rattle.host_io.specs.Counts.{risen, HasCause};
+ghost use Rattle.lego_base.specs.Counts.{risen, HasCause};
 ghost use Rattle.host_io.specs.Sources.{Moved};
 
 use crate::failed::Failed;
@@ -42,9 +44,7 @@ impl<R> StdSource<R> {
 impl<R: Read> Source for StdSource<R> {
     ghost use Rattle.std.specs.Prelude.{None};
 
-    ghost left = { λ _. None };
-
-    ghost faults = { λ s. s };
+    ghost state = { λ s. record { left = None; faults = s } };
 
     /// It fails where the reader does, and counts nothing else.
     fn read(&mut self, buf: &mut [u8]) -> Result<usize, Failed>

@@ -1,3 +1,5 @@
+//! Each object once, on its happy path and at each failure.
+
 use super::*;
 use std::fs;
 use std::io::Cursor;

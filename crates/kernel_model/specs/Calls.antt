@@ -2,6 +2,7 @@
 -- of the call. Arguments are in registers 10 to 15 (a0 to a5), the number is in register 17 (a7), and the
 -- answer goes to register 10, as in syscall(2) for RISC-V. An error is minus its number of errno(3).
 use Rattle.std.specs.Prelude.{ℕ, ◌-◌, ◌*◌, ◌%◌, ◌^◌, ◌==◌, Bool, true, false, not, if◌then◌else◌, min, List, [], ◌∷◌, ◌++◌, length, take, Option, Some, None}
+use Rattle.lego_base.specs.declared.sizes.TheConstants.{LONGEST_FILE}
 use Rattle.lego_base.specs.Space.{permits, bytes_at}
 use Rattle.rv64_step.specs.declared.cpu.Cpu.{Cpu}
 use Rattle.rv64_step.specs.Meaning.{reg, with_reg, next_pc}
@@ -78,9 +79,9 @@ opened fd =
     if fd == 2 then Some (Output Err) else
     None))
 
--- a length above 16777216 bytes counts as 16777216
+-- a length above the longest counts as the longest
 abbrev pub counted : ℕ → ℕ
-counted length = min length 16777216
+counted length = min length LONGEST_FILE
 
 -- how many bytes of the input a read of this length moves
 abbrev pub moved : ℕ → Kernel → ℕ

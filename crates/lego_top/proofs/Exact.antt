@@ -4,7 +4,7 @@ use Rattle.std.specs.Option.{option_map}
 use Rattle.std.proofs.lemmas.Bool.{cases_lt, lt-ltb, le-ltb}
 use Rattle.lego_base.specs.declared.report.EndWord.{EndWord}
 use Rattle.lego_base.specs.declared.report.EndWord.TheVariants as words
-use Rattle.host_io.specs.Counts.{Rose, Calm}
+use Rattle.lego_base.specs.Counts.{Rose, Calm}
 use Rattle.host_io.specs.Depots.{Files, Has}
 use Rattle.host_io.specs.Sources.{Gave, IsDry, IsLonger}
 use Rattle.host_io.proofs.CountLaws.{Calm-not_rose}
@@ -19,10 +19,13 @@ use Rattle.plain_kernel.specs.Runs.{schedule_of, EndsAfter, StopsAtCall}
 use Rattle.lego_top.specs.declared.ending.Ending.{Ending}
 use Rattle.lego_top.specs.declared.ending.Ending.TheVariants.{Done, Spent, Stuck, Usage, Missing, FileLong, BadDesc, BadImage, InputFault, InputLong, DepotFault, Unbuilt, OutFault, ErrFault, NoMemory}
 use Rattle.lego_top.specs.declared.ending.Part.TheVariants as parts
-use Rattle.lego_top.specs.Outside.{Outside, longest}
-use Rattle.lego_top.specs.Accepted.{Found, Planned, Names, Loaded, Fed, Ran, booted}
-use Rattle.lego_top.specs.Caused.{Ended, Caused}
-use Rattle.lego_top.specs.Decided.{image_refusal, init_refusal, plan_refusal, read_refusal, desc_refusal, refusal, Refused, IsFine, ComesToCall, ending_of, Complete}
+use Rattle.lego_base.specs.declared.sizes.TheConstants.{LONGEST_FILE}
+use Rattle.lego_top.specs.Outside.{Outside, outlets}
+use Rattle.lego_top.specs.Inputs.{Found, Planned, Names, Loaded, Fed, Ran, booted}
+use Rattle.lego_top.specs.Causes.{Ended, Caused}
+use Rattle.lego_top.specs.Refusals.{image_refusal, init_refusal, plan_refusal, read_refusal, desc_refusal, refusal}
+use Rattle.lego_top.specs.Endings.{ending_of}
+use Rattle.lego_top.specs.Theorem.{Refused, IsFine, ComesToCall, Complete}
 
 -- ---- two words for one thing
 
@@ -79,7 +82,7 @@ module _ (asked : Option (List ℕ)) (before after world : Outside) (fine : IsFi
   found_is : (found : Found asked before) → found.bytes ≡ fine.desc
   found_is found =
       let name : found.name ≡ fine.name = same_some asked found.name fine.name found.is_asked fine.is_asked in
-      let entry : fine.files found.name ≡ Some found.bytes = has before.outlets.files fine.files found.name (Some found.bytes) fine.tells found.there in
+      let entry : fine.files found.name ≡ Some found.bytes = has before.depot.files fine.files found.name (Some found.bytes) fine.tells found.there in
       same_some (fine.files fine.name) found.bytes fine.desc (ap fine.files (sym name) ∙ entry) fine.desc_there
 
   planned_is : (planned : Planned asked before) → planned.plan ≡ fine.plan
@@ -87,11 +90,11 @@ module _ (asked : Option (List ℕ)) (before after world : Outside) (fine : IsFi
 
   loaded_is : (loaded : Loaded asked before) → loaded.image ≡ fine.image
   loaded_is loaded =
-      let entry : fine.files loaded.planned.plan.init ≡ Some loaded.image = has before.outlets.files fine.files loaded.planned.plan.init (Some loaded.image) fine.tells loaded.there in
+      let entry : fine.files loaded.planned.plan.init ≡ Some loaded.image = has before.depot.files fine.files loaded.planned.plan.init (Some loaded.image) fine.tells loaded.there in
       same_some (fine.files fine.plan.init) loaded.image fine.image (ap (λ (plan : Plan). fine.files plan.init) (sym (planned_is loaded.planned)) ∙ entry) fine.image_there
 
   fed_fine : (fed : Fed asked before after) → fed.input ≡ fine.input
-  fed_fine fed = sym (fed_is before.input after.input fine.input fed.input fine.tells_input fed.whole.gave fed.whole.dry)
+  fed_fine fed = sym (fed_is before.input.left after.input.left fine.input fed.input fine.tells_input fed.whole.gave fed.whole.dry)
 
   abbrev schedule : Schedule
   schedule = schedule_of fine.plan
@@ -106,8 +109,8 @@ module _ (asked : Option (List ℕ)) (before after world : Outside) (fine : IsFi
       (subst (λ (image : List ℕ). Did ran.fed.loaded.planned.plan (booted ran.fed.loaded.planned.plan image fine.input)) (loaded_is ran.fed.loaded)
       (subst (λ (input : List ℕ). Did ran.fed.loaded.planned.plan (booted ran.fed.loaded.planned.plan ran.fed.loaded.image input)) (fed_fine ran.fed) ran.did))
 
-  -- a file that the words or the plan name is there, and isn't too long
-  names_fine : (name : List ℕ) → Names asked before name → (bytes : List ℕ) × (fine.files name ≡ Some bytes) × (length bytes ≤ longest)
+  -- a file that the command line or the plan names is there, and isn't too long
+  names_fine : (name : List ℕ) → Names asked before name → (bytes : List ℕ) × (fine.files name ≡ Some bytes) × (length bytes ≤ LONGEST_FILE)
   names_fine name (inl is) =
       let same : name ≡ fine.name = same_some asked name fine.name is fine.is_asked in
       (fine.desc, ap fine.files same ∙ fine.desc_there, fine.desc_fits)
@@ -116,12 +119,12 @@ module _ (asked : Option (List ℕ)) (before after world : Outside) (fine : IsFi
       (fine.image, ap fine.files same ∙ fine.image_there, fine.image_fits)
 
   no_missing : {C : Type 0} (name : List ℕ) → Caused asked before after (Missing name) → C
-  no_missing name c = let there = names_fine name c.0 in none_some (fine.files name) there.0 (has before.outlets.files fine.files name None fine.tells c.1) there.1
+  no_missing name c = let there = names_fine name c.0 in none_some (fine.files name) there.0 (has before.depot.files fine.files name None fine.tells c.1) there.1
 
   no_long : {C : Type 0} (name : List ℕ) → Caused asked before after (FileLong name) → C
   no_long name c =
       let there = names_fine name c.1 in
-      let held : c.0 ≡ there.0 = same_some (fine.files name) c.0 there.0 (has before.outlets.files fine.files name (Some c.0) fine.tells c.2) there.1 in
+      let held : c.0 ≡ there.0 = same_some (fine.files name) c.0 there.0 (has before.depot.files fine.files name (Some c.0) fine.tells c.2) there.1 in
       let size : length c.0 ≡ length there.0 = ap (λ (l : List ℕ). length l) held in
       let fits : length there.0 ≤ 16777216 = there.2 in
       let long : 16777216 < length c.0 = c.3 in
@@ -142,30 +145,30 @@ module _ (asked : Option (List ℕ)) (before after world : Outside) (fine : IsFi
 
   no_long_input : {C : Type 0} → Caused asked before after InputLong → C
   no_long_input c =
-      let long : longest < length fine.input = subst (λ (told : Option (List ℕ)). IsLonger longest told) fine.tells_input c.1 in
+      let long : LONGEST_FILE < length fine.input = subst (λ (told : Option (List ℕ)). IsLonger LONGEST_FILE told) fine.tells_input c.1 in
       let fits : length fine.input ≤ 16777216 = fine.input_fits in
       let no : ⊥ = omega (arith, long, fits) in absurd no
 
   -- a run that ended, by the flat run's end
-  word_is : (t : ℕ) (word word' : EndWord) → EndsAfter schedule boot t word → Ran asked before after (Ended before.outlets after.outlets word') → ending_of word' ≡ ending_of word
+  word_is : (t : ℕ) (word word' : EndWord) → EndsAfter schedule boot t word → Ran asked before after (Ended (outlets before) (outlets after) word') → ending_of word' ≡ ending_of word
   word_is t word word' ends ran =
-      let did : Ended before.outlets after.outlets word' fine.plan boot = moved (Ended before.outlets after.outlets word') ran in
+      let did : Ended (outlets before) (outlets after) word' fine.plan boot = moved (Ended (outlets before) (outlets after) word') ran in
       ap ending_of (sym (ends_once schedule boot t did.turns word word' ends did.ends))
 
-  comes : (stops : StopsAtCall schedule boot before.outlets.streams after.outlets.streams) → ComesToCall schedule boot stops.turns
+  comes : (stops : StopsAtCall schedule boot (outlets before).streams (outlets after).streams) → ComesToCall schedule boot stops.turns
   comes stops = record { into = stops.into; unbuilt = stops.unbuilt }
 
   no_unbuilt : {C : Type 0} (t : ℕ) (word : EndWord) → EndsAfter schedule boot t word → Caused asked before after (Unbuilt parts.Call) → C
   no_unbuilt t word ends ran =
-      let did = moved (λ plan boot. StopsAtCall (schedule_of plan) boot before.outlets.streams after.outlets.streams × (after.outlets.files ≡ before.outlets.files)) ran in
+      let did = moved (λ plan boot. StopsAtCall (schedule_of plan) boot (outlets before).streams (outlets after).streams × (after.depot.files ≡ before.depot.files)) ran in
       absurd (no_call schedule boot t did.0.turns word ends (comes did.0))
 
-  no_end : {C : Type 0} (u : ℕ) (word : EndWord) → ComesToCall schedule boot u → Ran asked before after (Ended before.outlets after.outlets word) → C
+  no_end : {C : Type 0} (u : ℕ) (word : EndWord) → ComesToCall schedule boot u → Ran asked before after (Ended (outlets before) (outlets after) word) → C
   no_end u word call ran =
-      let did : Ended before.outlets after.outlets word fine.plan boot = moved (Ended before.outlets after.outlets word) ran in
+      let did : Ended (outlets before) (outlets after) word fine.plan boot = moved (Ended (outlets before) (outlets after) word) ran in
       absurd (no_call schedule boot did.turns u word did.ends call)
 
-  module _ (depot : Calm before.depot_faults after.depot_faults) (input : Calm before.input_faults after.input_faults) (out : Calm before.stream_faults.out after.stream_faults.out) (err : Calm before.stream_faults.err after.stream_faults.err) where
+  module _ (depot : Calm before.depot.faults after.depot.faults) (input : Calm before.input.faults after.input.faults) (out : Calm before.out.faults after.out.faults) (err : Calm before.err.faults after.err.faults) where
     no_rise : {C : Type 0} (b n : ℕ) → Calm b n → Rose b n → C
     no_rise b n calm rose = absurd (Calm-not_rose b n calm rose)
 
@@ -178,13 +181,13 @@ module _ (asked : Option (List ℕ)) (before after world : Outside) (fine : IsFi
     end_is t word ends (FileLong name) c = no_long name c
     end_is t word ends (BadDesc flaw place) c = no_bad_desc flaw place c
     end_is t word ends (BadImage fault) c = no_bad_image fault c
-    end_is t word ends InputFault c = no_rise before.input_faults after.input_faults input c.1
+    end_is t word ends InputFault c = no_rise before.input.faults after.input.faults input c.1
     end_is t word ends InputLong c = no_long_input c
-    end_is t word ends DepotFault c = no_rise before.depot_faults after.depot_faults depot c.0
+    end_is t word ends DepotFault c = no_rise before.depot.faults after.depot.faults depot c.0
     end_is t word ends (Unbuilt parts.Files) c = no_files c
     end_is t word ends (Unbuilt parts.Call) c = no_unbuilt t word ends c
-    end_is t word ends OutFault c = no_rise before.stream_faults.out after.stream_faults.out out c.0
-    end_is t word ends ErrFault c = no_rise before.stream_faults.err after.stream_faults.err err c.0
+    end_is t word ends OutFault c = no_rise before.out.faults after.out.faults out c.0
+    end_is t word ends ErrFault c = no_rise before.err.faults after.err.faults err c.0
     end_is t word ends NoMemory c = inr refl
 
     call_is : (u : ℕ) → ComesToCall schedule boot u → (result : Ending) → Caused asked before after result → (result ≡ Unbuilt parts.Call) ⊎ (result ≡ NoMemory)
@@ -196,41 +199,41 @@ module _ (asked : Option (List ℕ)) (before after world : Outside) (fine : IsFi
     call_is u call (FileLong name) c = no_long name c
     call_is u call (BadDesc flaw place) c = no_bad_desc flaw place c
     call_is u call (BadImage fault) c = no_bad_image fault c
-    call_is u call InputFault c = no_rise before.input_faults after.input_faults input c.1
+    call_is u call InputFault c = no_rise before.input.faults after.input.faults input c.1
     call_is u call InputLong c = no_long_input c
-    call_is u call DepotFault c = no_rise before.depot_faults after.depot_faults depot c.0
+    call_is u call DepotFault c = no_rise before.depot.faults after.depot.faults depot c.0
     call_is u call (Unbuilt parts.Files) c = no_files c
     call_is u call (Unbuilt parts.Call) c = inl refl
-    call_is u call OutFault c = no_rise before.stream_faults.out after.stream_faults.out out c.0
-    call_is u call ErrFault c = no_rise before.stream_faults.err after.stream_faults.err err c.0
+    call_is u call OutFault c = no_rise before.out.faults after.out.faults out c.0
+    call_is u call ErrFault c = no_rise before.err.faults after.err.faults err c.0
     call_is u call NoMemory c = inr refl
 
 -- a count that stays calm stayed so up to each moment
 calm_before : (b m n : ℕ) → m ≤ n → Calm b n → Calm b m
 calm_before b m n low calm = omega (arith, low, calm)
 
--- The answer by what was fine, where `after` is the world at the ending and `world` the one behind its line.
-pub complete : (asked : Option (List ℕ)) (before after world : Outside) (result : Ending) → after.depot_faults ≡ world.depot_faults → after.input_faults ≡ world.input_faults → after.stream_faults.out ≡ world.stream_faults.out → after.stream_faults.err ≤ world.stream_faults.err → Caused asked before after result → Complete asked before world result
+-- The answer by what was fine, where `after` is the world at the ending and `world` the one after its line.
+pub complete : (asked : Option (List ℕ)) (before after world : Outside) (result : Ending) → after.depot.faults ≡ world.depot.faults → after.input.faults ≡ world.input.faults → after.out.faults ≡ world.out.faults → after.err.faults ≤ world.err.faults → Caused asked before after result → Complete asked before world result
 complete asked before after world result depot input out err c = record {
   ended = λ fine t word ends.
       end_is asked before after world fine
-      (subst (Calm before.depot_faults) (sym depot) fine.depot_calm) (subst (Calm before.input_faults) (sym input) fine.input_calm) (subst (Calm before.stream_faults.out) (sym out) fine.out_calm) (calm_before before.stream_faults.err after.stream_faults.err world.stream_faults.err err fine.err_calm)
+      (subst (Calm before.depot.faults) (sym depot) fine.depot_calm) (subst (Calm before.input.faults) (sym input) fine.input_calm) (subst (Calm before.out.faults) (sym out) fine.out_calm) (calm_before before.err.faults after.err.faults world.err.faults err fine.err_calm)
       t word ends result c;
   unbuilt = λ fine u call.
       call_is asked before after world fine
-      (subst (Calm before.depot_faults) (sym depot) fine.depot_calm) (subst (Calm before.input_faults) (sym input) fine.input_calm) (subst (Calm before.stream_faults.out) (sym out) fine.out_calm) (calm_before before.stream_faults.err after.stream_faults.err world.stream_faults.err err fine.err_calm)
+      (subst (Calm before.depot.faults) (sym depot) fine.depot_calm) (subst (Calm before.input.faults) (sym input) fine.input_calm) (subst (Calm before.out.faults) (sym out) fine.out_calm) (calm_before before.err.faults after.err.faults world.err.faults err fine.err_calm)
       u call result c;
 }
 
 -- ---- refusals
 
-module _ (asked : Option (List ℕ)) (before after : Outside) (files : Files) (input : List ℕ) (tells : before.outlets.files ≡ Some files) (tells_input : before.input ≡ Some input) where
+module _ (asked : Option (List ℕ)) (before after : Outside) (files : Files) (input : List ℕ) (tells : before.depot.files ≡ Some files) (tells_input : before.input.left ≡ Some input) where
   -- each step, where it goes on
   found_refusal : (found : Found asked before) → refusal asked files input ≡ read_refusal files input (described found.bytes)
   found_refusal found =
       ap (λ (asked : Option (List ℕ)). refusal asked files input) found.is_asked
-      ∙ ap (desc_refusal files input found.name) (has before.outlets.files files found.name (Some found.bytes) tells found.there)
-      ∙ ap (λ (b : Bool). cond b (Some (FileLong found.name)) (read_refusal files input (described found.bytes))) (le-ltb longest (length found.bytes) found.fits)
+      ∙ ap (desc_refusal files input found.name) (has before.depot.files files found.name (Some found.bytes) tells found.there)
+      ∙ ap (λ (b : Bool). cond b (Some (FileLong found.name)) (read_refusal files input (described found.bytes))) (le-ltb LONGEST_FILE (length found.bytes) found.fits)
 
   planned_refusal : (planned : Planned asked before) → refusal asked files input ≡ init_refusal input planned.plan.init (files planned.plan.init)
   planned_refusal planned = found_refusal planned.found ∙ ap (read_refusal files input) planned.reads ∙ ap (plan_refusal files input planned.plan) planned.built
@@ -238,40 +241,40 @@ module _ (asked : Option (List ℕ)) (before after : Outside) (files : Files) (i
   loaded_refusal : (loaded : Loaded asked before) → refusal asked files input ≡ image_refusal loaded.image input
   loaded_refusal loaded =
       planned_refusal loaded.planned
-      ∙ ap (init_refusal input loaded.planned.plan.init) (has before.outlets.files files loaded.planned.plan.init (Some loaded.image) tells loaded.there)
-      ∙ ap (λ (b : Bool). cond b (Some (FileLong loaded.planned.plan.init)) (image_refusal loaded.image input)) (le-ltb longest (length loaded.image) loaded.fits)
+      ∙ ap (init_refusal input loaded.planned.plan.init) (has before.depot.files files loaded.planned.plan.init (Some loaded.image) tells loaded.there)
+      ∙ ap (λ (b : Bool). cond b (Some (FileLong loaded.planned.plan.init)) (image_refusal loaded.image input)) (le-ltb LONGEST_FILE (length loaded.image) loaded.fits)
 
   fed_refusal : (fed : Fed asked before after) → refusal asked files input ≡ option_map BadImage (first_fault fed.loaded.image)
   fed_refusal fed =
-      let same : input ≡ fed.input = fed_is before.input after.input input fed.input tells_input fed.whole.gave fed.whole.dry in
+      let same : input ≡ fed.input = fed_is before.input.left after.input.left input fed.input tells_input fed.whole.gave fed.whole.dry in
       let size : length input ≡ length fed.input = ap (λ (l : List ℕ). length l) same in
       let within : length fed.input ≤ 16777216 = fed.whole.within in
       let fits : length input ≤ 16777216 = omega (arith, size, within) in
-      loaded_refusal fed.loaded ∙ ap (λ (b : Bool). cond b (Some InputLong) (option_map BadImage (first_fault fed.loaded.image))) (le-ltb longest (length input) fits)
+      loaded_refusal fed.loaded ∙ ap (λ (b : Bool). cond b (Some InputLong) (option_map BadImage (first_fault fed.loaded.image))) (le-ltb LONGEST_FILE (length input) fits)
 
   -- a run isn't refused
   ran_not_refused : {C : Type 0} (Did : Plan → Kernel → Type 0) (ran : Ran asked before after Did) (first : Ending) → refusal asked files input ≡ Some first → C
   ran_not_refused Did ran first e = none_some (refusal asked files input) first (fed_refusal ran.fed ∙ ap (option_map BadImage) ran.good) e
 
-  missing_refusal : (name : List ℕ) → Names asked before name → Has before.outlets.files name None → refusal asked files input ≡ Some (Missing name)
+  missing_refusal : (name : List ℕ) → Names asked before name → Has before.depot.files name None → refusal asked files input ≡ Some (Missing name)
   missing_refusal name (inl is) there =
       ap (λ (asked : Option (List ℕ)). refusal asked files input) is
-      ∙ ap (desc_refusal files input name) (has before.outlets.files files name None tells there)
+      ∙ ap (desc_refusal files input name) (has before.depot.files files name None tells there)
   missing_refusal name (inr planned) there =
       planned_refusal planned.0
       ∙ ap (λ (n : List ℕ). init_refusal input n (files n)) planned.1
-      ∙ ap (init_refusal input name) (has before.outlets.files files name None tells there)
+      ∙ ap (init_refusal input name) (has before.depot.files files name None tells there)
 
-  long_refusal : (name bytes : List ℕ) → Names asked before name → Has before.outlets.files name (Some bytes) → longest < length bytes → refusal asked files input ≡ Some (FileLong name)
+  long_refusal : (name bytes : List ℕ) → Names asked before name → Has before.depot.files name (Some bytes) → LONGEST_FILE < length bytes → refusal asked files input ≡ Some (FileLong name)
   long_refusal name bytes (inl is) there long =
       ap (λ (asked : Option (List ℕ)). refusal asked files input) is
-      ∙ ap (desc_refusal files input name) (has before.outlets.files files name (Some bytes) tells there)
-      ∙ ap (λ (b : Bool). cond b (Some (FileLong name)) (read_refusal files input (described bytes))) (lt-ltb longest (length bytes) long)
+      ∙ ap (desc_refusal files input name) (has before.depot.files files name (Some bytes) tells there)
+      ∙ ap (λ (b : Bool). cond b (Some (FileLong name)) (read_refusal files input (described bytes))) (lt-ltb LONGEST_FILE (length bytes) long)
   long_refusal name bytes (inr planned) there long =
       planned_refusal planned.0
       ∙ ap (λ (n : List ℕ). init_refusal input n (files n)) planned.1
-      ∙ ap (init_refusal input name) (has before.outlets.files files name (Some bytes) tells there)
-      ∙ ap (λ (b : Bool). cond b (Some (FileLong name)) (image_refusal bytes input)) (lt-ltb longest (length bytes) long)
+      ∙ ap (init_refusal input name) (has before.depot.files files name (Some bytes) tells there)
+      ∙ ap (λ (b : Bool). cond b (Some (FileLong name)) (image_refusal bytes input)) (lt-ltb LONGEST_FILE (length bytes) long)
 
   some_file : (plan : Plan) (listed : List FileFrom) → 0 < length listed → plan_refusal files input plan listed ≡ Some (Unbuilt parts.Files)
   some_file plan [] some = absurd (omega arith)
@@ -291,8 +294,8 @@ module _ (asked : Option (List ℕ)) (before after : Outside) (files : Files) (i
   refused_with first e (BadImage fault) c = first_is (BadImage fault) first (fed_refusal c.0 ∙ ap (option_map BadImage) c.1) e
   refused_with first e InputFault c = inr (inr (inl refl))
   refused_with first e InputLong c =
-      let long : longest < length input = subst (λ (told : Option (List ℕ)). IsLonger longest told) tells_input c.1 in
-      first_is InputLong first (loaded_refusal c.0 ∙ ap (λ (b : Bool). cond b (Some InputLong) (option_map BadImage (first_fault c.0.image))) (lt-ltb longest (length input) long)) e
+      let long : LONGEST_FILE < length input = subst (λ (told : Option (List ℕ)). IsLonger LONGEST_FILE told) tells_input c.1 in
+      first_is InputLong first (loaded_refusal c.0 ∙ ap (λ (b : Bool). cond b (Some InputLong) (option_map BadImage (first_fault c.0.image))) (lt-ltb LONGEST_FILE (length input) long)) e
   refused_with first e DepotFault c = inr (inl refl)
   refused_with first e (Unbuilt parts.Files) c = first_is (Unbuilt parts.Files) first (found_refusal c.0 ∙ ap (read_refusal files input) c.2 ∙ some_file c.1 c.1.files c.3) e
   refused_with first e (Unbuilt parts.Call) c = ran_not_refused _ c first e
@@ -303,7 +306,7 @@ module _ (asked : Option (List ℕ)) (before after : Outside) (files : Files) (i
 pub refused : (asked : Option (List ℕ)) (before after : Outside) (result : Ending) → Caused asked before after result → Refused asked before result
 refused asked before after result c files tells input tells_input first e = refused_with asked before after files input tells tells_input first e result c
 
--- ---- words that are none of a command, and no others, are Usage
+-- ---- a command line that names no description, and no other, is a usage error
 
 module _ (asked : Option (List ℕ)) (before after : Outside) where
   found_some : {C : Type 0} → asked ≡ None → Found asked before → C

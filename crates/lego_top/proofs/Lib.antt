@@ -1,6 +1,5 @@
 pub mod Lines
 pub mod Causes
-pub mod Leaving
+pub mod LeftBehind
 pub mod Limits
 pub mod Exact
-pub mod Commanding

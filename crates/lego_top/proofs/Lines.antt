@@ -1,48 +1,68 @@
--- A line written in five parts.
-use Rattle.std.proofs.Common.{◌≡◌, ℕ, ◌++◌, List, Option, Result, Ok, Err, OnOk, OnErr, inl, inr, ◌∙◌, subst, append_assoc}
-use Rattle.host_io.specs.Counts.{HasCause}
-use Rattle.lego_top.specs.Said.{Said}
-use Rattle.host_io.specs.Sinks.{TookAll, TookFront}
-use Rattle.host_io.proofs.SinkLaws.{TookAll-append, TookAll-equal, TookFront-append, TookFront-longer}
+-- A line that is written piece by piece.
+use Rattle.std.proofs.Common.{◌≡◌, ℕ, ◌+◌, ◌<◌, ◌≤◌, ◌∷◌, ◌++◌, List, [], length, map, drop, get_or, Bor, Option, Result, Ok, Err, OnOk, OnErr, inl, inr, refl, sym, ◌∙◌, ap, subst, append_assoc, arith}
+use Rattle.std.specs.List.{concat}
+use Rattle.std.proofs.lemmas.List.{append-nil, at_drop_more}
+use Rattle.lego_base.specs.Counts.{HasCause}
+use Rattle.host_io.specs.Sinks.{SinkState, TookAll, TookFront}
+use Rattle.host_io.proofs.SinkLaws.{TookAll-none, TookAll-append, TookAll-equal, TookFront-append, TookFront-longer}
+use Rattle.lego_top.specs.Line.{line, Says}
 
-pub front_as : (a b : Option (List ℕ)) (xs ys : List ℕ) → xs ≡ ys → TookFront a b xs → TookFront a b ys
+front_as : (a b : Option (List ℕ)) (xs ys : List ℕ) → xs ≡ ys → TookFront a b xs → TookFront a b ys
 front_as a b xs ys same front = subst (λ (l : List ℕ). TookFront a b l) same front
 
-module _ (a b c d e f : Option (List ℕ)) (vs ws xs ys zs line : List ℕ) (whole : vs ++ (ws ++ (xs ++ (ys ++ zs))) ≡ line) where
-  three : vs ++ ws ++ xs ++ (ys ++ zs) ≡ line
-  three = append_assoc (vs ++ ws) xs (ys ++ zs) ∙ append_assoc vs ws (xs ++ (ys ++ zs)) ∙ whole
+abbrev newline : List ℕ
+newline = 10 ∷ []
 
-  five : vs ++ ws ++ xs ++ ys ++ zs ≡ line
-  five = append_assoc (vs ++ ws ++ xs) ys zs ∙ three
+-- the text of pieces
+abbrev text : List (Bor (List ℕ)) → List ℕ
+text pieces = concat (map (λ (piece : Bor (List ℕ)). piece.now) pieces)
 
-  two_taken : TookAll a b vs → TookAll b c ws → TookAll a c (vs ++ ws)
-  two_taken first second = TookAll-append a b c vs ws first second
+-- n pieces were written
+pub record PiecesSoFar (before after : SinkState) (pieces : List (Bor (List ℕ))) (n : ℕ) : Type 0 where
+  pub later : before.faults ≤ after.faults
+  pub front : List ℕ
+  pub parts : front ++ text (drop n pieces) ≡ text pieces
+  pub took : TookAll before.held after.held front
 
-  three_taken : TookAll a b vs → TookAll b c ws → TookAll c d xs → TookAll a d (vs ++ ws ++ xs)
-  three_taken first second third = TookAll-append a c d (vs ++ ws) xs (two_taken first second) third
+pub no_piece : (state : SinkState) (pieces : List (Bor (List ℕ))) → PiecesSoFar state state pieces 0
+no_piece state pieces = record { later = omega arith; front = []; parts = refl; took = TookAll-none state.held state.held refl }
 
-  four_taken : TookAll a b vs → TookAll b c ws → TookAll c d xs → TookAll d e ys → TookAll a e (vs ++ ws ++ xs ++ ys)
-  four_taken first second third fourth = TookAll-append a d e (vs ++ ws ++ xs) ys (three_taken first second third) fourth
+module _ (a b c : SinkState) (pieces : List (Bor (List ℕ))) (n : ℕ) (so : PiecesSoFar a b pieces n) where
+  module _ (d : Bor (List ℕ)) (some : n < length pieces) (later : b.faults ≤ c.faults) where
+    abbrev piece : List ℕ
+    piece = (get_or pieces n d).now
 
-  pub all_parts : TookAll a b vs → TookAll b c ws → TookAll c d xs → TookAll d e ys → TookAll e f zs → TookAll a f line
-  all_parts first second third fourth fifth = TookAll-equal a f (vs ++ ws ++ xs ++ ys ++ zs) line five (TookAll-append a e f (vs ++ ws ++ xs ++ ys) zs (four_taken first second third fourth) fifth)
+    parts_more : so.front ++ piece ++ text (drop (n + 1) pieces) ≡ text pieces
+    parts_more =
+        append_assoc so.front piece (text (drop (n + 1) pieces))
+        ∙ ap (λ (l : List ℕ). so.front ++ l) (sym (at_drop_more text pieces n d some))
+        ∙ so.parts
 
-  pub first_cut : TookFront a b vs → TookFront a b line
-  first_cut first = front_as a b (vs ++ (ws ++ (xs ++ (ys ++ zs)))) line whole (TookFront-longer a b vs (ws ++ (xs ++ (ys ++ zs))) first)
+    pub one_piece_more : TookAll b.held c.held piece → PiecesSoFar a c pieces (n + 1)
+    one_piece_more took = record {
+      later = omega (arith, so.later, later);
+      front = so.front ++ piece;
+      parts = parts_more;
+      took = TookAll-append a.held b.held c.held so.front piece so.took took;
+    }
 
-  pub second_cut : TookAll a b vs → TookFront b c ws → TookFront a c line
-  second_cut first second = front_as a c (vs ++ ws ++ (xs ++ (ys ++ zs))) line (append_assoc vs ws (xs ++ (ys ++ zs)) ∙ whole) (TookFront-longer a c (vs ++ ws) (xs ++ (ys ++ zs)) (TookFront-append a b c vs ws first second))
+    pub cut_in_piece : TookFront b.held c.held piece → TookFront a.held c.held (text pieces ++ newline)
+    cut_in_piece front =
+        front_as a.held c.held (so.front ++ piece ++ (text (drop (n + 1) pieces) ++ newline)) (text pieces ++ newline)
+        (sym (append_assoc (so.front ++ piece) (text (drop (n + 1) pieces)) newline) ∙ ap (λ (l : List ℕ). l ++ newline) parts_more)
+        (TookFront-longer a.held c.held (so.front ++ piece) (text (drop (n + 1) pieces) ++ newline) (TookFront-append a.held b.held c.held so.front piece so.took front))
 
-  pub third_cut : TookAll a b vs → TookAll b c ws → TookFront c d xs → TookFront a d line
-  third_cut first second third = front_as a d (vs ++ ws ++ xs ++ (ys ++ zs)) line three (TookFront-longer a d (vs ++ ws ++ xs) (ys ++ zs) (TookFront-append a c d (vs ++ ws) xs (two_taken first second) third))
+  module _ (all : drop n pieces ≡ []) where
+    whole : so.front ≡ text pieces
+    whole = sym (append-nil so.front) ∙ ap (λ (l : List (Bor (List ℕ))). so.front ++ text l) (sym all) ∙ so.parts
 
-  pub fourth_cut : TookAll a b vs → TookAll b c ws → TookAll c d xs → TookFront d e ys → TookFront a e line
-  fourth_cut first second third fourth = front_as a e (vs ++ ws ++ xs ++ ys ++ zs) line five (TookFront-longer a e (vs ++ ws ++ xs ++ ys) zs (TookFront-append a d e (vs ++ ws ++ xs) ys (three_taken first second third) fourth))
+    pub all_taken : TookAll b.held c.held newline → TookAll a.held c.held (text pieces ++ newline)
+    all_taken took = TookAll-equal a.held c.held (so.front ++ newline) (text pieces ++ newline) (ap (λ (l : List ℕ). l ++ newline) whole) (TookAll-append a.held b.held c.held so.front newline so.took took)
 
-  pub fifth_cut : TookAll a b vs → TookAll b c ws → TookAll c d xs → TookAll d e ys → TookFront e f zs → TookFront a f line
-  fifth_cut first second third fourth fifth = front_as a f (vs ++ ws ++ xs ++ ys ++ zs) line five (TookFront-append a e f (vs ++ ws ++ xs ++ ys) zs (four_taken first second third fourth) fifth)
+    pub cut_at_end : TookFront b.held c.held newline → TookFront a.held c.held (text pieces ++ newline)
+    cut_at_end front = front_as a.held c.held (so.front ++ newline) (text pieces ++ newline) (ap (λ (l : List ℕ). l ++ newline) whole) (TookFront-append a.held b.held c.held so.front newline so.took front)
 
 -- what was said, by how saying it ended
-pub said_by : {X E : Type 0} (held held' : Option (List ℕ)) (count count' : ℕ) (line : List ℕ) (result : Result X E) → HasCause count count' result → OnOk result (TookAll held held' line) → OnErr result (TookFront held held' line) → Said held held' count count' line
-said_by held held' count count' line (Ok x) cause all front = inl all
-said_by held held' count count' line (Err e) cause all front = inr (cause.failed, front)
+pub said_by : {X E : Type 0} (before after : SinkState) (line : List ℕ) (result : Result X E) → HasCause before.faults after.faults result → OnOk result (TookAll before.held after.held line) → OnErr result (TookFront before.held after.held line) → Says before after line
+said_by before after line (Ok x) cause all front = record { later = cause.later; took = inl all }
+said_by before after line (Err e) cause all front = record { later = cause.later; took = inr (cause.failed, front) }

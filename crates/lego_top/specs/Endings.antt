@@ -1,11 +1,22 @@
--- The statuses of endings, and their lines on standard error.
-use Rattle.std.specs.Prelude.{ℕ, List, [], ◌∷◌, ◌++◌, codes}
-use Rattle.desc_read.specs.Faults.{word_of}
-use Rattle.elf_image.specs.Image.{name_of}
+-- The statuses of endings, and the endings that the stages of a command lead to.
+use Rattle.std.specs.Prelude.{ℕ, Result, Ok, Err}
+use Rattle.lego_base.specs.declared.report.EndWord.{EndWord}
+use Rattle.lego_base.specs.declared.report.EndWord.TheVariants as words
+use Rattle.lego_base.specs.declared.stops.CallStop.{CallStop}
+use Rattle.lego_base.specs.declared.stops.CallStop.TheVariants as stop
+use Rattle.host_io.specs.declared.reading.InputStop.{InputStop}
+use Rattle.host_io.specs.declared.reading.InputStop.TheVariants as input
+use Rattle.desc_read.specs.declared.fault.DescFault.{DescFault}
+use Rattle.desc_read.specs.declared.fault.DescFault.TheVariants as desc
 use Rattle.lego_top.specs.declared.ending.Ending.{Ending}
 use Rattle.lego_top.specs.declared.ending.Ending.TheVariants.{Done, Spent, Stuck, Usage, Missing, FileLong, BadDesc, BadImage, InputFault, InputLong, DepotFault, Unbuilt, OutFault, ErrFault, NoMemory}
-use Rattle.lego_top.specs.declared.ending.Part.{Part}
-use Rattle.lego_top.specs.declared.ending.Part.TheVariants.{Files, Call}
+use Rattle.lego_top.specs.declared.ending.Part.TheVariants.{Call}
+use Rattle.lego_top.specs.declared.depot_file.FetchFault.{FetchFault}
+use Rattle.lego_top.specs.declared.depot_file.FetchFault.TheVariants as fetch
+use Rattle.lego_top.specs.declared.leaving.LeaveFault.{LeaveFault}
+use Rattle.lego_top.specs.declared.leaving.LeaveFault.TheVariants as leave
+use Rattle.lego_top.specs.declared.program_run.RunFault.{RunFault}
+use Rattle.lego_top.specs.declared.program_run.RunFault.TheVariants as run
 
 abbrev pub status_of : Ending → ℕ
 status_of Done = 0
@@ -24,46 +35,48 @@ status_of NoMemory = 15
 status_of (FileLong name) = 16
 status_of (Unbuilt part) = 17
 
-abbrev pub part_name : Part → List ℕ
-part_name Files = codes "Files"
-part_name Call = codes "Call"
+-- the ending of a run that came to its end
+abbrev pub ending_of : EndWord → Ending
+ending_of words.Done = Done
+ending_of words.Stuck = Stuck
+ending_of words.Spent = Spent
 
--- a line ends with a newline
-abbrev pub newline : List ℕ
-newline = 10 ∷ []
+-- the endings of stages that failed
+abbrev pub of_fetch : FetchFault → Ending
+of_fetch (fetch.Missing name) = Missing name
+of_fetch (fetch.Long name) = FileLong name
+of_fetch fetch.Depot = DepotFault
+of_fetch fetch.NoMemory = NoMemory
 
--- the line of an ending; one that went as the program wanted has none, and none is written where standard error failed
-abbrev pub line_of : Ending → List ℕ
-line_of Done = []
-line_of Spent = []
-line_of Stuck = []
-line_of Usage = codes "lego: usage: run DESC | plain DESC | trace DESC NAME | gen NUMBER PREFIX" ++ newline
-line_of (Missing name) = codes "lego: missing " ++ name ++ newline
-line_of (FileLong name) = codes "lego: file " ++ name ++ codes " is longer than 16777216 bytes" ++ newline
-line_of (BadDesc flaw place) = codes "lego: description: " ++ word_of flaw ++ codes " at " ++ place ++ newline
-line_of (BadImage fault) = codes "lego: image: " ++ name_of fault ++ newline
-line_of InputFault = codes "lego: input failed" ++ newline
-line_of InputLong = codes "lego: input is longer than 16777216 bytes" ++ newline
-line_of DepotFault = codes "lego: depot failed" ++ newline
-line_of (Unbuilt part) = codes "lego: unbuilt " ++ part_name part ++ newline
-line_of OutFault = codes "lego: output failed" ++ newline
-line_of ErrFault = []
-line_of NoMemory = codes "lego: out of memory" ++ newline
+abbrev pub of_description : DescFault → Ending
+of_description (desc.Bad flaw place) = BadDesc flaw place
+of_description desc.NoMemory = NoMemory
 
--- the text in the line that the ending carries: the name of a file, or a place in the description
-abbrev pub carried : Ending → List ℕ
-carried (Missing name) = name
-carried (FileLong name) = name
-carried (BadDesc flaw place) = place
-carried Done = []
-carried Spent = []
-carried Stuck = []
-carried Usage = []
-carried (BadImage fault) = []
-carried InputFault = []
-carried InputLong = []
-carried DepotFault = []
-carried (Unbuilt part) = []
-carried OutFault = []
-carried ErrFault = []
-carried NoMemory = []
+abbrev pub of_input : InputStop → Ending
+of_input input.Failed = InputFault
+of_input input.Long = InputLong
+of_input input.NoMemory = NoMemory
+
+abbrev pub of_run : RunFault → Ending
+of_run (run.Image fault) = BadImage fault
+of_run run.Unbuilt = Unbuilt Call
+of_run run.Out = OutFault
+of_run run.Err = ErrFault
+of_run run.Depot = DepotFault
+of_run run.NoMemory = NoMemory
+
+-- the ending of a command
+abbrev pub ending_from : Result EndWord Ending → Ending
+ending_from (Ok word) = ending_of word
+ending_from (Err ending) = ending
+
+-- why the run of a program failed, by what stopped it or by what was left of it
+abbrev pub of_stop : CallStop → RunFault
+of_stop (stop.Halt halt) = run.NoMemory
+of_stop stop.OutFault = run.Out
+of_stop stop.ErrFault = run.Err
+of_stop stop.Unbuilt = run.Unbuilt
+
+abbrev pub of_leave : LeaveFault → RunFault
+of_leave leave.Depot = run.Depot
+of_leave leave.NoMemory = run.NoMemory

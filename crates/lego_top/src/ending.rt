@@ -1,5 +1,13 @@
-use desc_read::DescKind;
+//! How a call of `lego_main` ends.
+
+ghost use Rattle.std.specs.Prelude.{◌≡◌};
+ghost use Rattle.lego_top.specs.Endings.{of_fetch, of_description, of_input, of_run};
+
+use crate::depot_file::FetchFault;
+use crate::program_run::RunFault;
+use desc_read::{DescFault, DescKind};
 use elf_image::ImageFault;
+use host_io::InputStop;
 use lego_base::{Bytes, EndWord, Text};
 
 /// How a call of `lego_main` ended.
@@ -11,19 +19,19 @@ pub enum Ending {
     Spent,
     /// Processes live, and none of them is ready.
     Stuck,
-    /// The words are none of a command.
+    /// The command line names no description.
     Usage,
     /// There is no file of this name.
     Missing { name: Text },
-    /// The file of this name is longer than 16777216 bytes.
+    /// The file of this name is longer than `LONGEST_FILE` bytes.
     FileLong { name: Text },
     /// The description has this fault at this place.
     BadDesc { kind: DescKind, place: Bytes },
-    /// The program's file is no image.
+    /// The program's file isn't an image.
     BadImage { kind: ImageFault },
     /// Standard input failed.
     InputFault,
-    /// Standard input is longer than 16777216 bytes.
+    /// Standard input is longer than `LONGEST_FILE` bytes.
     InputLong,
     /// The depot failed.
     DepotFault,
@@ -47,9 +55,7 @@ pub enum Part {
 }
 
 impl Ending {
-    ghost use Rattle.std.specs.Prelude.{◌≡◌};
-    ghost use Rattle.lego_top.specs.Endings.{status_of};
-    ghost use Rattle.lego_top.specs.Decided.{ending_of};
+    ghost use Rattle.lego_top.specs.Endings.{status_of, ending_of};
 
     /// The exit status of the program: 0 for `Done`, and another for each kind of ending.
     pub fn status(&self) -> u8
@@ -82,6 +88,57 @@ impl Ending {
             EndWord::Done => Ending::Done,
             EndWord::Stuck => Ending::Stuck,
             EndWord::Spent => Ending::Spent,
+        }
+    }
+}
+
+impl From<FetchFault> for Ending {
+    ghost from_gives = { λ fault ending. ending ≡ of_fetch fault };
+
+    fn from(fault: FetchFault) -> Ending {
+        match fault {
+            FetchFault::Missing { name } => Ending::Missing { name },
+            FetchFault::Long { name } => Ending::FileLong { name },
+            FetchFault::Depot => Ending::DepotFault,
+            FetchFault::NoMemory => Ending::NoMemory,
+        }
+    }
+}
+
+impl From<DescFault> for Ending {
+    ghost from_gives = { λ fault ending. ending ≡ of_description fault };
+
+    fn from(fault: DescFault) -> Ending {
+        match fault {
+            DescFault::Bad { kind, place } => Ending::BadDesc { kind, place },
+            DescFault::NoMemory => Ending::NoMemory,
+        }
+    }
+}
+
+impl From<InputStop> for Ending {
+    ghost from_gives = { λ stop ending. ending ≡ of_input stop };
+
+    fn from(stop: InputStop) -> Ending {
+        match stop {
+            InputStop::Failed => Ending::InputFault,
+            InputStop::Long => Ending::InputLong,
+            InputStop::NoMemory => Ending::NoMemory,
+        }
+    }
+}
+
+impl From<RunFault> for Ending {
+    ghost from_gives = { λ fault ending. ending ≡ of_run fault };
+
+    fn from(fault: RunFault) -> Ending {
+        match fault {
+            RunFault::Image(kind) => Ending::BadImage { kind },
+            RunFault::Unbuilt => Ending::Unbuilt { part: Part::Call },
+            RunFault::Out => Ending::OutFault,
+            RunFault::Err => Ending::ErrFault,
+            RunFault::Depot => Ending::DepotFault,
+            RunFault::NoMemory => Ending::NoMemory,
         }
     }
 }

@@ -1,6 +1,8 @@
+//! Whole calls: programs of a few words, descriptions, and failures of each object in turn.
+
 use crate::lego_main;
-use host_io::{CalmSource, Depot, Got, MemDepot, MemSink, MemSource};
-use lego_base::Bytes;
+use host_io::{Depot, Got, MemDepot, MemSink, MemSource};
+use lego_base::{Bytes, LONGEST_FILE};
 use std::alloc::Global;
 use std::process::Abort;
 use std::test::Fail;
@@ -14,36 +16,13 @@ const HEADERS: [u8; 120] = [
     0, 1, 0, 0, 0, 0, 0, 0, 0, 0, 0, 0, 0, 0, 0, 0, 0, 0, 0, 0, 0, 0, 0, 0, 0x10, 0, 0, 0, 0, 0, 0,
 ];
 
-// write(1, text, 2), where the text stands behind nine words, then exit(0).
+// write(1, text, 2), where the text follows the nine words, then exit(0).
 const HI: [u32; 9] = [
     0x00100513, 0x00000597, 0x02058593, 0x00200613, 0x04000893, 0x00000073, 0x00000513, 0x05d00893,
     0x00000073,
 ];
 
-// An image with these instructions, then these bytes.
-fn image(alloc: Global, flags: u8, code: &[u32], text: &[u8]) -> Result<Vec<u8>, Fail> {
-    let mut bytes = Vec::from_slice(alloc, HEADERS.as_slice())?;
-    for word in code {
-        bytes.extend_from_slice(word.to_le_bytes().as_slice())?;
-    }
-    bytes.extend_from_slice(text)?;
-    let size = bytes.len() as u64;
-    let size_bytes = size.to_le_bytes();
-    for (at, byte) in bytes.iter_mut().enumerate() {
-        if at == 68 {
-            *byte = flags;
-        }
-        if at >= 96 && at < 104 {
-            *byte = size_bytes[at - 96];
-        }
-        if at >= 104 && at < 112 {
-            *byte = size_bytes[at - 104];
-        }
-    }
-    Ok(bytes)
-}
-
-// write(1, "ab", 2), write(1, "cd", 2), exit(0), where the text stands behind the words.
+// write(1, "ab", 2), write(1, "cd", 2), exit(0), where the text follows the words.
 const AB_CD: [u32; 12] = [
     0x00000597, 0x03058593, 0x00100513, 0x00200613, 0x04000893, 0x00000073, 0x00258593, 0x00100513,
     0x00000073, 0x00000513, 0x05d00893, 0x00000073,
@@ -105,7 +84,14 @@ const PATCH: [u32; 7] = [
     0x00000297, 0x00700337, 0x51330313, 0x0062a823, 0x00100513, 0x05d00893, 0x00000073,
 ];
 
+// Asks for call 29, which isn't built.
+const UNBUILT: [u32; 2] = [0x01d00893, 0x00000073];
+
 const PLAIN: &str = r#"{"version":1,"init":"p.elf","report":"r","archive":"a"}"#;
+
+const TWO_STRINGS: &str =
+    r#"{"version":1,"init":"p.elf","args":["p","xy"],"env":["a=1"],"turns":[7,6,5,4,3,2,1],
+    "report":"r","archive":"a"}"#;
 
 // The calls of each object that fail, 0 for none. The depot's first two calls put the description and the program
 // there.
@@ -142,6 +128,24 @@ struct Wanted<'a> {
     report: &'a str,
 }
 
+// An image with these instructions, then these bytes.
+fn image(alloc: Global, flags: u8, code: &[u32], text: &[u8]) -> Result<Vec<u8>, Fail> {
+    let size = (HEADERS.len() + 4 * code.len() + text.len()) as u64;
+    let (to_flags, rest) = HEADERS.as_slice().split_at(68);
+    let (to_sizes, end) = rest.split_at(28);
+    let mut bytes = Vec::from_slice(alloc, to_flags)?;
+    bytes.push(flags)?;
+    bytes.extend_from_slice(&to_sizes[1..])?;
+    bytes.extend_from_slice(size.to_le_bytes().as_slice())?;
+    bytes.extend_from_slice(size.to_le_bytes().as_slice())?;
+    bytes.extend_from_slice(&end[16..])?;
+    for word in code {
+        bytes.extend_from_slice(word.to_le_bytes().as_slice())?;
+    }
+    bytes.extend_from_slice(text)?;
+    Ok(bytes)
+}
+
 fn words_of(alloc: Global, names: &[&str]) -> Result<Vec<String>, Fail> {
     let mut words = Vec::new(alloc);
     for name in names {
@@ -151,37 +155,26 @@ fn words_of(alloc: Global, names: &[&str]) -> Result<Vec<String>, Fail> {
 }
 
 fn depot_with(alloc: Global, desc: &str, program: &[u8], fails: u64) -> Result<MemDepot, Fail> {
-    let calls = [fails];
-    let mut depot = MemDepot::new(alloc, calls.as_slice())?;
+    let mut depot = MemDepot::new(alloc, &[fails])?;
     let _ = depot.put("d.json", desc.as_bytes());
     let _ = depot.put("p.elf", program);
     Ok(depot)
 }
 
-fn sink(alloc: Global, fails: u64) -> Result<MemSink, Fail> {
-    let calls = [fails];
-    Ok(MemSink::new(alloc, 128, calls.as_slice())?)
-}
-
-fn source(alloc: Global, input: &[u8], fails: u64) -> Result<MemSource, Fail> {
-    let calls = [fails];
-    Ok(MemSource::new(alloc, input, calls.as_slice())?)
-}
-
-// `plain d.json` with this description and this program.
-fn run(
+// A call with these words, this description, this program and this input.
+fn call(
     alloc: Global,
+    names: &[&str],
     desc: &str,
     program: &[u8],
     input: &[u8],
     fails: Fails,
 ) -> Result<Outcome, Fail> {
     let mut depot = depot_with(alloc, desc, program, fails.depot)?;
-    let mut input = source(alloc, input, fails.input)?;
-    let mut out = sink(alloc, fails.out)?;
-    let mut err = sink(alloc, fails.err)?;
-    let names = ["plain", "d.json"];
-    let words = words_of(alloc, names.as_slice())?;
+    let mut input = MemSource::new(alloc, input, &[fails.input])?;
+    let mut out = MemSink::new(alloc, 128, &[fails.out])?;
+    let mut err = MemSink::new(alloc, 128, &[fails.err])?;
+    let words = words_of(alloc, names)?;
     let ending = lego_main(
         alloc,
         words.as_slice(),
@@ -221,25 +214,26 @@ fn compare(
     Ok(())
 }
 
-// A program of these words and this text has to end so.
+// `plain d.json` with this description and this program has to end so.
 fn ends(
     rt: &impl Abort,
     alloc: Global,
-    code: &[u32],
+    desc: &str,
+    program: &[u8],
     input: &[u8],
+    fails: Fails,
     wanted: Wanted<'_>,
 ) -> Result<(), Fail> {
-    let program = image(alloc, 7, code, b"abcd".as_slice())?;
-    let outcome = run(alloc, PLAIN, program.as_slice(), input, NONE)?;
+    let outcome = call(alloc, &["plain", "d.json"], desc, program, input, fails)?;
     compare(rt, alloc, outcome, wanted)
 }
 
 #[test]
 fn hi_leaves_report_and_archive(rt: HostRuntime) -> Result<(), Fail> {
     let alloc = rt.alloc();
-    let hi = image(alloc, 5, HI.as_slice(), b"hi".as_slice())?;
+    let hi = image(alloc, 5, HI.as_slice(), b"hi")?;
     assert_eq!(rt; hi.len(), 158);
-    let mut outcome = run(alloc, PLAIN, hi.as_slice(), b"".as_slice(), NONE)?;
+    let mut outcome = call(alloc, &["plain", "d.json"], PLAIN, hi.as_slice(), b"", NONE)?;
     let archive = entry(alloc, &mut outcome.depot, "a")?;
     assert_eq!(rt; archive.as_slice(), b"LEGOARC1\0\0\0\0".as_slice());
     let wanted = Wanted {
@@ -251,63 +245,44 @@ fn hi_leaves_report_and_archive(rt: HostRuntime) -> Result<(), Fail> {
     compare(&rt, alloc, outcome, wanted)
 }
 
-// A jump to a misaligned address, a breakpoint, an illegal word, a load of address 0.
-#[test]
-fn deaths_are_reported(rt: HostRuntime) -> Result<(), Fail> {
-    let alloc = rt.alloc();
-    let deaths = [
-        (
-            [0x00000517u32, 0x002500e7],
-            "ending done\nturns 1\nexit 1 7\n",
-        ),
-        ([0x00100073, 0], "ending done\nturns 1\nexit 1 5\n"),
-        ([0, 0], "ending done\nturns 1\nexit 1 4\n"),
-        ([0x00003503, 0], "ending done\nturns 1\nexit 1 11\n"),
-    ];
-    for (code, report) in deaths {
-        let wanted = Wanted {
-            status: 0,
-            out: "",
-            err: "",
-            report,
-        };
-        ends(&rt, alloc, code.as_slice(), b"".as_slice(), wanted)?;
-    }
-    Ok(())
-}
-
+// Deaths: a jump to a misaligned address, a breakpoint, an illegal word, a load of address 0. Answers as exit codes:
 // EFAULT (14) for a buffer at 0, for one of 2^64 - 1 bytes and for one that goes past the stack, EBADF (9) for
 // descriptors of 2^63 and 2^64 - 1, none read at the end of the input; the pids; a store over the next instruction.
 #[test]
-fn exit_codes_tell_the_answers(rt: HostRuntime) -> Result<(), Fail> {
+fn reports_tell_deaths_and_answers(rt: HostRuntime) -> Result<(), Fail> {
     let alloc = rt.alloc();
-    let answers = [
-        (BAD_BUFFER.as_slice(), "ending done\nturns 2\nexit 1 1536\n"),
-        (LONGEST.as_slice(), "ending done\nturns 2\nexit 1 1536\n"),
+    for (code, report) in [
         (
-            HIGH_DESCRIPTOR.as_slice(),
-            "ending done\nturns 2\nexit 1 2816\n",
+            [0x00000517u32, 0x002500e7].as_slice(),
+            "turns 1\nexit 1 7\n",
         ),
-        (
-            EMPTY_INPUT.as_slice(),
-            "ending done\nturns 2\nexit 1 1280\n",
-        ),
-        (
-            PAST_THE_STACK.as_slice(),
-            "ending done\nturns 2\nexit 1 1536\n",
-        ),
-        (GREATEST.as_slice(), "ending done\nturns 2\nexit 1 2816\n"),
-        (IDS.as_slice(), "ending done\nturns 6\nexit 1 3328\n"),
-        (PATCH.as_slice(), "ending done\nturns 1\nexit 1 1792\n"),
-    ];
-    for (code, report) in answers {
-        let wanted = Wanted {
-            status: 0,
-            out: "",
-            err: "",
-            report,
-        };
-        ends(&rt, alloc, code, b"".as_slice(), wanted)?;
+        ([0x00100073, 0].as_slice(), "turns 1\nexit 1 5\n"),
+        ([0, 0].as_slice(), "turns 1\nexit 1 4\n"),
+        ([0x00003503, 0].as_slice(), "turns 1\nexit 1 11\n"),
+        (BAD_BUFFER.as_slice(), "turns 2\nexit 1 1536\n"),
+        (LONGEST.as_slice(), "turns 2\nexit 1 1536\n"),
+        (HIGH_DESCRIPTOR.as_slice(), "turns 2\nexit 1 2816\n"),
+        (EMPTY_INPUT.as_slice(), "turns 2\nexit 1 1280\n"),
+        (PAST_THE_STACK.as_slice(), "turns 2\nexit 1 1536\n"),
+        (GREATEST.as_slice(), "turns 2\nexit 1 2816\n"),
+        (IDS.as_slice(), "turns 6\nexit 1 3328\n"),
+        (PATCH.as_slice(), "turns 1\nexit 1 1792\n"),
+    ] {
+        let program = image(alloc, 7, code, b"abcd")?;
+        let mut outcome = call(
+            alloc,
+            &["plain", "d.json"],
+            PLAIN,
+            program.as_slice(),
+            b"",
+            NONE,
+        )?;
+        let found = entry(alloc, &mut outcome.depot, "r")?;
+        assert_eq!(rt; outcome.status, 0);
+        assert_eq!(rt;
+            found.as_slice().strip_prefix(b"ending done\n".as_slice()),
+            Some(report.as_bytes())
+        );
     }
     Ok(())
 }
@@ -315,109 +290,128 @@ fn exit_codes_tell_the_answers(rt: HostRuntime) -> Result<(), Fail> {
 #[test]
 fn input_is_taken_in_pieces(rt: HostRuntime) -> Result<(), Fail> {
     let alloc = rt.alloc();
+    let program = image(alloc, 7, COPY.as_slice(), b"")?;
     let wanted = Wanted {
         status: 0,
         out: "12345678",
         err: "",
         report: "ending done\nturns 8\nexit 1 0\n",
     };
-    ends(&rt, alloc, COPY.as_slice(), b"12345678".as_slice(), wanted)
+    ends(
+        &rt,
+        alloc,
+        PLAIN,
+        program.as_slice(),
+        b"12345678",
+        NONE,
+        wanted,
+    )
 }
 
 #[test]
 fn program_finds_its_arguments(rt: HostRuntime) -> Result<(), Fail> {
     let alloc = rt.alloc();
-    let program = image(alloc, 5, ARGUMENTS.as_slice(), b"".as_slice())?;
-    let desc =
-        r#"{"version":1,"init":"p.elf","args":["p","xy"],"env":["a=1"],"turns":[7,6,5,4,3,2,1],
-        "report":"r","archive":"a"}"#;
-    let outcome = run(alloc, desc, program.as_slice(), b"".as_slice(), NONE)?;
+    let program = image(alloc, 5, ARGUMENTS.as_slice(), b"")?;
     let wanted = Wanted {
         status: 0,
         out: "xy",
         err: "a=1",
         report: "ending done\nturns 3\nexit 1 512\n",
     };
-    compare(&rt, alloc, outcome, wanted)
+    ends(
+        &rt,
+        alloc,
+        TWO_STRINGS,
+        program.as_slice(),
+        b"",
+        NONE,
+        wanted,
+    )?;
+
+    // A failure of standard error has no line, as there is nowhere to write it.
+    let fails = Fails { err: 1, ..NONE };
+    let wanted = Wanted {
+        status: 13,
+        out: "xy",
+        err: "",
+        report: "",
+    };
+    ends(
+        &rt,
+        alloc,
+        TWO_STRINGS,
+        program.as_slice(),
+        b"",
+        fails,
+        wanted,
+    )
 }
 
 #[test]
 fn jump_to_itself_is_spent(rt: HostRuntime) -> Result<(), Fail> {
     let alloc = rt.alloc();
-    let code = [0x0000006fu32];
-    let program = image(alloc, 5, code.as_slice(), b"".as_slice())?;
+    let program = image(alloc, 5, &[0x0000006f], b"")?;
     let desc = r#"{"version":1,"init":"p.elf","max_turns":3,"report":"r","archive":"a"}"#;
-    let outcome = run(alloc, desc, program.as_slice(), b"".as_slice(), NONE)?;
     let wanted = Wanted {
         status: 6,
         out: "",
         err: "",
         report: "ending spent\nturns 3\n",
     };
-    compare(&rt, alloc, outcome, wanted)
+    ends(&rt, alloc, desc, program.as_slice(), b"", NONE, wanted)
 }
 
-// Two crashes in one turn, no turns, files, and a program that the depot lacks.
+// Descriptions: two crashes in one turn, no turns, files, and a program that the depot lacks. Programs: files that are
+// no image, one that is too long, and a call that isn't built.
 #[test]
-fn descriptions_are_refused(rt: HostRuntime) -> Result<(), Fail> {
+fn descriptions_and_programs_are_refused(rt: HostRuntime) -> Result<(), Fail> {
     let alloc = rt.alloc();
-    let refusals = [
+    let unbuilt = image(alloc, 5, UNBUILT.as_slice(), b"")?;
+    let data = image(alloc, 6, HI.as_slice(), b"hi")?;
+    let long = vec![in alloc; 0u8; LONGEST_FILE + 1]?;
+    let (short, _) = HEADERS.as_slice().split_at(63);
+    for (desc, program, status, err) in [
         (
             r#"{"version":1,"crashes":[{"turn":5,"after":0,"memory":0},{"turn":5,"after":1,"memory":0}],"init":"p.elf","report":"r","archive":"a"}"#,
+            short,
             4u8,
             "lego: description: range at crashes[1].turn\n",
         ),
         (
             r#"{"version":1,"turns":[],"init":"p.elf","report":"r","archive":"a"}"#,
+            short,
             4,
             "lego: description: range at turns\n",
         ),
         (
             r#"{"version":1,"init":"p.elf","files":[{"path":"f","from":"p.elf"}],"report":"r","archive":"a"}"#,
+            short,
             17,
             "lego: unbuilt Files\n",
         ),
         (
             r#"{"version":1,"init":"q.elf","report":"r","archive":"a"}"#,
+            short,
             3,
             "lego: missing q.elf\n",
         ),
-    ];
-    for (desc, status, err) in refusals {
-        let outcome = run(alloc, desc, b"".as_slice(), b"".as_slice(), NONE)?;
+        (PLAIN, short, 5, "lego: image: Short\n"),
+        (PLAIN, data.as_slice(), 5, "lego: image: EntryOutside\n"),
+        (PLAIN, unbuilt.as_slice(), 17, "lego: unbuilt Call\n"),
+        (
+            PLAIN,
+            long.as_slice(),
+            16,
+            "lego: file p.elf is longer than 16777216 bytes\n",
+        ),
+    ] {
         let wanted = Wanted {
             status,
             out: "",
             err,
             report: "",
         };
-        compare(&rt, alloc, outcome, wanted)?;
-    }
-    Ok(())
-}
-
-// Files that are no image, and a call that isn't built.
-#[test]
-fn programs_are_refused(rt: HostRuntime) -> Result<(), Fail> {
-    let alloc = rt.alloc();
-    let unbuilt = [0x01d00893u32, 0x00000073];
-    let call = image(alloc, 5, unbuilt.as_slice(), b"".as_slice())?;
-    let data = image(alloc, 6, HI.as_slice(), b"hi".as_slice())?;
-    let (short, _) = HEADERS.as_slice().split_at(63);
-    let refusals = [
-        (short, 5u8, "lego: image: Short\n"),
-        (data.as_slice(), 5, "lego: image: EntryOutside\n"),
-        (call.as_slice(), 17, "lego: unbuilt Call\n"),
-    ];
-    for (program, status, err) in refusals {
-        let outcome = run(alloc, PLAIN, program, b"".as_slice(), NONE)?;
-        let wanted = Wanted {
-            status,
-            out: "",
-            err,
-            report: "",
-        };
-        compare(&rt, alloc, outcome, wanted)?;
+        ends(&rt, alloc, desc, program, b"", NONE, wanted)?;
     }
     Ok(())
 }
@@ -426,131 +420,70 @@ fn programs_are_refused(rt: HostRuntime) -> Result<(), Fail> {
 #[test]
 fn failed_write_ends_the_run(rt: HostRuntime) -> Result<(), Fail> {
     let alloc = rt.alloc();
-    let program = image(alloc, 5, AB_CD.as_slice(), b"abcd".as_slice())?;
+    let program = image(alloc, 5, AB_CD.as_slice(), b"abcd")?;
     let fails = Fails { out: 2, ..NONE };
-    let outcome = run(alloc, PLAIN, program.as_slice(), b"".as_slice(), fails)?;
     let wanted = Wanted {
         status: 12,
         out: "ab",
         err: "lego: output failed\n",
         report: "",
     };
-    compare(&rt, alloc, outcome, wanted)
+    ends(&rt, alloc, PLAIN, program.as_slice(), b"", fails, wanted)
 }
 
-// The status of a run of the program that writes twice, where these calls fail.
-fn status_where(alloc: Global, fails: Fails) -> Result<u8, Fail> {
-    let program = image(alloc, 5, AB_CD.as_slice(), b"abcd".as_slice())?;
-    let outcome = run(alloc, PLAIN, program.as_slice(), b"x".as_slice(), fails)?;
-    Ok(outcome.status)
-}
-
-// The depot's calls: the description, the program, the report, the archive.
+// The depot's calls are the description, the program, the report and the archive, after the test's own two.
 #[test]
-fn each_failure_of_the_depot_has_its_ending(rt: HostRuntime) -> Result<(), Fail> {
+fn each_failure_has_its_ending(rt: HostRuntime) -> Result<(), Fail> {
     let alloc = rt.alloc();
-    for (call, status) in [(3u64, 11u8), (4, 11), (5, 11), (6, 11), (7, 0)] {
-        let fails = Fails {
-            depot: call,
-            ..NONE
-        };
-        assert_eq!(rt; status_where(alloc, fails)?, status);
-    }
-    Ok(())
-}
-
-#[test]
-fn each_failure_of_the_streams_has_its_ending(rt: HostRuntime) -> Result<(), Fail> {
-    let alloc = rt.alloc();
-    for (input, out, err, status) in [
-        (1u64, 0u64, 0u64, 9u8),
-        (2, 0, 0, 9),
-        (3, 0, 0, 0),
-        (0, 1, 0, 12),
-        (0, 2, 0, 12),
-        (0, 3, 0, 0),
-        (0, 1, 1, 12),
-        (0, 0, 1, 0),
+    let program = image(alloc, 5, AB_CD.as_slice(), b"abcd")?;
+    for (depot, input, out, err, status) in [
+        (3u64, 0u64, 0u64, 0u64, 11u8),
+        (4, 0, 0, 0, 11),
+        (5, 0, 0, 0, 11),
+        (6, 0, 0, 0, 11),
+        (7, 0, 0, 0, 0),
+        (0, 1, 0, 0, 9),
+        (0, 2, 0, 0, 9),
+        (0, 3, 0, 0, 0),
+        (0, 0, 1, 0, 12),
+        (0, 0, 2, 0, 12),
+        (0, 0, 3, 0, 0),
+        (0, 0, 1, 1, 12),
+        (0, 0, 0, 1, 0),
     ] {
         let fails = Fails {
-            depot: 0,
+            depot,
             input,
             out,
             err,
         };
-        assert_eq!(rt; status_where(alloc, fails)?, status);
+        let outcome = call(
+            alloc,
+            &["plain", "d.json"],
+            PLAIN,
+            program.as_slice(),
+            b"x",
+            fails,
+        )?;
+        assert_eq!(rt; outcome.status, status);
     }
     Ok(())
 }
 
-// A program's own write to standard error: it has no line, as there is nowhere to write it.
+// Command lines that name no description, one that the depot lacks, and an input that is too long.
 #[test]
-fn failed_standard_error_ends_the_run(rt: HostRuntime) -> Result<(), Fail> {
+fn command_line_and_input_are_refused(rt: HostRuntime) -> Result<(), Fail> {
     let alloc = rt.alloc();
-    let program = image(alloc, 5, ARGUMENTS.as_slice(), b"".as_slice())?;
-    let desc =
-        r#"{"version":1,"init":"p.elf","args":["p","xy"],"env":["a=1"],"report":"r","archive":"a"}"#;
-    let fails = Fails { err: 1, ..NONE };
-    let outcome = run(alloc, desc, program.as_slice(), b"".as_slice(), fails)?;
-    let wanted = Wanted {
-        status: 13,
-        out: "xy",
-        err: "",
-        report: "",
-    };
-    compare(&rt, alloc, outcome, wanted)
-}
-
-// The status of a call with these words and this input.
-fn status_of(alloc: Global, names: &[&str], input: &[u8]) -> Result<u8, Fail> {
-    let hi = image(alloc, 5, HI.as_slice(), b"hi".as_slice())?;
-    let mut depot = depot_with(alloc, PLAIN, hi.as_slice(), 0)?;
-    let mut out = sink(alloc, 0)?;
-    let mut err = sink(alloc, 0)?;
-    let mut input = CalmSource::new(alloc, input)?;
-    let words = words_of(alloc, names)?;
-    let ending = lego_main(
-        alloc,
-        words.as_slice(),
-        &mut input,
-        &mut out,
-        &mut err,
-        &mut depot,
-    );
-    Ok(ending.status())
-}
-
-#[test]
-fn words_name_a_description(rt: HostRuntime) -> Result<(), Fail> {
-    let alloc = rt.alloc();
-    let none: [&str; 0] = [];
-    assert_eq!(rt; status_of(alloc, none.as_slice(), b"".as_slice())?, 2);
-    let run = ["run", "d.json"];
-    assert_eq!(rt; status_of(alloc, run.as_slice(), b"".as_slice())?, 2);
-    let absent = ["plain", "e.json"];
-    assert_eq!(rt; status_of(alloc, absent.as_slice(), b"".as_slice())?, 3);
+    let hi = image(alloc, 5, HI.as_slice(), b"hi")?;
+    let long = vec![in alloc; 0u8; LONGEST_FILE + 1]?;
+    for (names, input, status) in [
+        ([].as_slice(), b"".as_slice(), 2u8),
+        (["run", "d.json"].as_slice(), b"".as_slice(), 2),
+        (["plain", "e.json"].as_slice(), b"".as_slice(), 3),
+        (["plain", "d.json"].as_slice(), long.as_slice(), 10),
+    ] {
+        let outcome = call(alloc, names, PLAIN, hi.as_slice(), input, NONE)?;
+        assert_eq!(rt; outcome.status, status);
+    }
     Ok(())
-}
-
-#[test]
-fn input_has_a_longest_length(rt: HostRuntime) -> Result<(), Fail> {
-    let alloc = rt.alloc();
-    let long = vec![in alloc; 0u8; 16_777_217]?;
-    let words = ["plain", "d.json"];
-    assert_eq!(rt; status_of(alloc, words.as_slice(), long.as_slice())?, 10);
-    Ok(())
-}
-
-#[test]
-fn file_has_a_longest_length(rt: HostRuntime) -> Result<(), Fail> {
-    let alloc = rt.alloc();
-    let long = vec![in alloc; 0u8; 16_777_217]?;
-    let outcome = run(alloc, PLAIN, long.as_slice(), b"".as_slice(), NONE)?;
-    let wanted = Wanted {
-        status: 16,
-        out: "",
-        err: "lego: file p.elf is longer than 16777216 bytes\n",
-        report: "",
-    };
-    compare(&rt, alloc, outcome, wanted)
 }

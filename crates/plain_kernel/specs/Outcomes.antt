@@ -4,8 +4,8 @@ use Rattle.std.specs.Prelude.{◌≡◌, ℕ, ◌<◌, ◌≤◌, Bool, true, fa
 use Rattle.lego_base.specs.declared.stops.CallStop.{CallStop}
 use Rattle.lego_base.specs.declared.stops.CallStop.TheVariants.{Halt, OutFault, ErrFault, Unbuilt}
 use Rattle.lego_base.specs.declared.stops.Halt.TheVariants.{NoMemory}
-use Rattle.host_io.specs.Counts.{Rose}
-use Rattle.host_io.specs.Sinks.{TookAll}
+use Rattle.lego_base.specs.Counts.{Rose}
+use Rattle.host_io.specs.Sinks.{SinkState, TookAll}
 use Rattle.kernel_model.specs.State as streams
 use Rattle.kernel_model.specs.State.{Kernel, Stream, Written, on, joined}
 
@@ -14,8 +14,8 @@ pub record Told : Type 0 where
   pub out : Option (List ℕ)
   pub err : Option (List ℕ)
 
-abbrev pub told : Option (List ℕ) → Option (List ℕ) → Told
-told out err = record { out = out; err = err }
+abbrev pub told : SinkState → SinkState → Told
+told out err = record { out = out.held; err = err.held }
 
 -- each took what was written to it
 pub record Took (old new : Told) (written : Written) : Type 0 where
@@ -55,8 +55,8 @@ pub record Faults : Type 0 where
   pub out : ℕ
   pub err : ℕ
 
-abbrev pub faults : ℕ → ℕ → Faults
-faults out err = record { out = out; err = err }
+abbrev pub faults : SinkState → SinkState → Faults
+faults out err = record { out = out.faults; err = err.faults }
 
 -- counts never fall
 pub record Later (before now : Faults) : Type 0 where

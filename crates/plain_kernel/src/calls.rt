@@ -44,9 +44,9 @@ impl Machine {
         err: &mut E,
     ) -> Result<CallEnd, CallStop>
         requires { self.old.first ≡ Some cpu.now }
-        ensures later { Later (faults (O.faults out.old) (E.faults err.old)) (faults (O.faults out.new) (E.faults err.new)) }
-        ensures cause { IfErr result (Cause (faults (O.faults out.old) (E.faults err.old)) (faults (O.faults out.new) (E.faults err.new))) }
-        ensures made { Made (told (O.held out.old) (E.held err.old)) (told (O.held out.new) (E.held err.new)) (kernel_of self.old) (kernel_of self.new) (λ k. the_row 1 cpu.now k) result }
+        ensures later { Later (faults (O.state out.old) (E.state err.old)) (faults (O.state out.new) (E.state err.new)) }
+        ensures cause { IfErr result (Cause (faults (O.state out.old) (E.state err.old)) (faults (O.state out.new) (E.state err.new))) }
+        ensures made { Made (told (O.state out.old) (E.state err.old)) (told (O.state out.new) (E.state err.new)) (kernel_of self.old) (kernel_of self.new) (λ k. the_row 1 cpu.now k) result }
         ensures first { self.new.first ≡ self.old.first }
         ensures files { self.new.files ≡ self.old.files }
     {

@@ -41,9 +41,9 @@ impl Machine {
         err: &mut E,
     ) -> Result<(), CallStop>
         requires { self.old.first ≡ Some cpu }
-        ensures later { Later (faults (O.faults out.old) (E.faults err.old)) (faults (O.faults out.new) (E.faults err.new)) }
-        ensures cause { IfErr result (Cause (faults (O.faults out.old) (E.faults err.old)) (faults (O.faults out.new) (E.faults err.new))) }
-        ensures went { Went (told (O.held out.old) (E.held err.old)) (told (O.held out.new) (E.held err.new)) (kernel_of self.old) (kernel_of self.new) (λ k. turns quantum cpu k) (λ k. turn_is_unbuilt quantum cpu k) result }
+        ensures later { Later (faults (O.state out.old) (E.state err.old)) (faults (O.state out.new) (E.state err.new)) }
+        ensures cause { IfErr result (Cause (faults (O.state out.old) (E.state err.old)) (faults (O.state out.new) (E.state err.new))) }
+        ensures went { Went (told (O.state out.old) (E.state err.old)) (told (O.state out.new) (E.state err.new)) (kernel_of self.old) (kernel_of self.new) (λ k. turns quantum cpu k) (λ k. turn_is_unbuilt quantum cpu k) result }
         ensures files { self.new.files ≡ self.old.files }
     {
         match self.instructions(cpu, quantum) {
@@ -85,9 +85,9 @@ impl Machine {
         err: &mut E,
     ) -> Result<(), CallStop>
         requires { self.old.first ≡ Some cpu }
-        ensures later { Later (faults (O.faults out.old) (E.faults err.old)) (faults (O.faults out.new) (E.faults err.new)) }
-        ensures cause { IfErr result (Cause (faults (O.faults out.old) (E.faults err.old)) (faults (O.faults out.new) (E.faults err.new))) }
-        ensures went { Went (told (O.held out.old) (E.held err.old)) (told (O.held out.new) (E.held err.new)) (kernel_of self.old) (kernel_of self.new) (λ k. calls cpu k) (λ k. call_is_unbuilt cpu k) result }
+        ensures later { Later (faults (O.state out.old) (E.state err.old)) (faults (O.state out.new) (E.state err.new)) }
+        ensures cause { IfErr result (Cause (faults (O.state out.old) (E.state err.old)) (faults (O.state out.new) (E.state err.new))) }
+        ensures went { Went (told (O.state out.old) (E.state err.old)) (told (O.state out.new) (E.state err.new)) (kernel_of self.old) (kernel_of self.new) (λ k. calls cpu k) (λ k. call_is_unbuilt cpu k) result }
         ensures files { self.new.files ≡ self.old.files }
     {
         match self.call_row(alloc, &cpu, out, err) {

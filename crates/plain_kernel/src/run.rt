@@ -36,11 +36,11 @@ pub fn plain_run<O: Sink, E: Sink>(
     requires { is_too_big plan.now.args plan.now.env ≡ false }
 
     // The run is the flat run on the kernel that is booted, as far as it goes.
-    ensures run { PlainRan (schedule_of plan.now) (boot_of image.now plan.now.args plan.now.env files.now input) (told (O.held out.old) (E.held err.old)) (told (O.held out.new) (E.held err.new)) result }
+    ensures run { PlainRan (schedule_of plan.now) (boot_of image.now plan.now.args plan.now.env files.now input) (told (O.state out.old) (E.state err.old)) (told (O.state out.new) (E.state err.new)) result }
 
     // A fault of a stream comes only where its sink's count rose.
-    ensures later { Later (faults (O.faults out.old) (E.faults err.old)) (faults (O.faults out.new) (E.faults err.new)) }
-    ensures cause { IfErr result (Cause (faults (O.faults out.old) (E.faults err.old)) (faults (O.faults out.new) (E.faults err.new))) }
+    ensures later { Later (faults (O.state out.old) (E.state err.old)) (faults (O.state out.new) (E.state err.new)) }
+    ensures cause { IfErr result (Cause (faults (O.state out.old) (E.state err.old)) (faults (O.state out.new) (E.state err.new))) }
 
     // No call makes a file, changes one or removes one.
     ensures files { IfOk result (λ end. end.files ≡ files.now) }
@@ -76,10 +76,10 @@ impl Machine {
         out: &mut O,
         err: &mut E,
     ) -> Result<Ended, CallStop>
-        ensures later { Later (faults (O.faults out.old) (E.faults err.old)) (faults (O.faults out.new) (E.faults err.new)) }
-        ensures cause { IfErr result (Cause (faults (O.faults out.old) (E.faults err.old)) (faults (O.faults out.new) (E.faults err.new))) }
+        ensures later { Later (faults (O.state out.old) (E.state err.old)) (faults (O.state out.new) (E.state err.new)) }
+        ensures cause { IfErr result (Cause (faults (O.state out.old) (E.state err.old)) (faults (O.state out.new) (E.state err.new))) }
         ensures files { self.new.files ≡ self.old.files }
-        ensures run { Run (told (O.held out.old) (E.held err.old)) (told (O.held out.new) (E.held err.new)) (kernel_of self.old) (kernel_of self.new) (schedule_of plan.now) result }
+        ensures run { Run (told (O.state out.old) (E.state err.old)) (told (O.state out.new) (E.state err.new)) (kernel_of self.old) (kernel_of self.new) (schedule_of plan.now) result }
     {
         for turns in 0..plan.max_turns {
             match self.first {

@@ -8,7 +8,7 @@ ghost use Rattle.plain_kernel.specs.Made.{PutOn, stream_is};
 use crate::calls::CallEnd;
 use crate::machine::{FIRST, Machine};
 use host_io::{Sink, write_all};
-use lego_base::{CallStop, MemStop};
+use lego_base::{CallStop, LONGEST_FILE, MemStop};
 use std::alloc::Global;
 
 /// A stream that a program writes.
@@ -19,9 +19,6 @@ pub enum Stream {
     /// Standard error.
     Err,
 }
-
-/// A length above this counts as this.
-const MOST_BYTES: u64 = 16_777_216;
 
 /// The negative of EBADF (9) of errno(3), as a word.
 const EBADF: u64 = u64::MAX - 8;
@@ -70,9 +67,9 @@ impl Machine {
         out: &mut O,
         err: &mut E,
     ) -> Result<CallEnd, CallStop>
-        ensures later { Later (faults (O.faults out.old) (E.faults err.old)) (faults (O.faults out.new) (E.faults err.new)) }
-        ensures cause { IfErr result (Cause (faults (O.faults out.old) (E.faults err.old)) (faults (O.faults out.new) (E.faults err.new))) }
-        ensures made { Made (told (O.held out.old) (E.held err.old)) (told (O.held out.new) (E.held err.new)) (kernel_of self.now) (kernel_of self.now) (λ k. write_to (opened fd) 1 addr len k) result }
+        ensures later { Later (faults (O.state out.old) (E.state err.old)) (faults (O.state out.new) (E.state err.new)) }
+        ensures cause { IfErr result (Cause (faults (O.state out.old) (E.state err.old)) (faults (O.state out.new) (E.state err.new))) }
+        ensures made { Made (told (O.state out.old) (E.state err.old)) (told (O.state out.new) (E.state err.new)) (kernel_of self.now) (kernel_of self.now) (λ k. write_to (opened fd) 1 addr len k) result }
     {
         let stream = match stream_of(fd) {
             Some(stream) => stream,
@@ -109,7 +106,7 @@ fn stream_of(fd: u64) -> Option<Stream>
 fn counted(len: u64) -> u64
     ensures { result ≡ counted len }
 {
-    len.min(MOST_BYTES)
+    len.min(LONGEST_FILE as u64)
 }
 
 // Puts bytes on a stream.
@@ -119,9 +116,9 @@ fn put<O: Sink, E: Sink>(
     out: &mut O,
     err: &mut E,
 ) -> Result<(), CallStop>
-    ensures later { Later (faults (O.faults out.old) (E.faults err.old)) (faults (O.faults out.new) (E.faults err.new)) }
-    ensures cause { IfErr result (Cause (faults (O.faults out.old) (E.faults err.old)) (faults (O.faults out.new) (E.faults err.new))) }
-    ensures put { PutOn (told (O.held out.old) (E.held err.old)) (told (O.held out.new) (E.held err.new)) stream bytes.now result }
+    ensures later { Later (faults (O.state out.old) (E.state err.old)) (faults (O.state out.new) (E.state err.new)) }
+    ensures cause { IfErr result (Cause (faults (O.state out.old) (E.state err.old)) (faults (O.state out.new) (E.state err.new))) }
+    ensures put { PutOn (told (O.state out.old) (E.state err.old)) (told (O.state out.new) (E.state err.new)) stream bytes.now result }
 {
     match stream {
         Stream::Out => match write_all(out, bytes) {

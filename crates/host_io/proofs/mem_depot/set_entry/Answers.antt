@@ -7,11 +7,11 @@ use Rattle.host_io.proofs.mem_depot.set_entry.Goals as goal
 
 pub returns-in-Some-clause-ok : goal.returns-in-Some-clause-ok
 returns-in-Some-clause-ok c =
-    map_of-set c.args.files.now.items c.args.name.now c.in-Some.at c.index_mut-file.result.now c.in-Ok.bytes (IsPlace-equal _ _ _ _ _ c.as_slice.ensures.value refl c.in-Some.ensures) c.index_mut-file.ensures.value
-    ∙ ap (λ (l : List ℕ). with_entry c.args.name.now (Some l) (looked_up c.args.files.now.items)) c.in-Ok.ensures
+    map_of-set c.args.files.now.items c.args.name.now c.in-Some.at c.index_mut-file.result.now c.in_ok-bytes.bytes (IsPlace-equal _ _ _ _ _ c.as_slice.ensures.value refl c.in-Some.ensures) c.index_mut-file.ensures.value
+    ∙ ap (λ (l : List ℕ). with_entry c.args.name.now (Some l) (looked_up c.args.files.now.items)) c.in_ok-bytes.ensures
 
-pub returns-in-Ok-add_entry-clause-ok : goal.returns-in-Ok-add_entry-clause-ok
-returns-in-Ok-add_entry-clause-ok c =
-    ap (λ (l : List FileOut). looked_up l) c.in-Ok-add_entry.ensures.ok
-    ∙ (map_of-push c.args.files.now.items c.args.name.now c.in-Ok.bytes (NoneBefore-equal _ _ _ _ c.as_slice.ensures.value refl c.in-None.ensures)
-    ∙ ap (λ (l : List ℕ). with_entry c.args.name.now (Some l) (looked_up c.args.files.now.items)) c.in-Ok.ensures)
+pub returns-in_ok-add_entry-in-None-clause-ok : goal.returns-in_ok-add_entry-in-None-clause-ok
+returns-in_ok-add_entry-in-None-clause-ok c =
+    ap (λ (l : List FileOut). looked_up l) c.in_ok-add_entry-in-None.ensures.ok
+    ∙ (map_of-push c.args.files.now.items c.args.name.now c.in_ok-bytes.bytes (NoneBefore-equal _ _ _ _ c.as_slice.ensures.value refl c.in-None.ensures)
+    ∙ ap (λ (l : List ℕ). with_entry c.args.name.now (Some l) (looked_up c.args.files.now.items)) c.in_ok-bytes.ensures)

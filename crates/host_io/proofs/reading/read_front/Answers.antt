@@ -1,9 +1,12 @@
+use Rattle.std.proofs.Common.{rules}
 use Rattle.host_io.proofs.ReadLaws.{read_stopped, read_some}
 use Rattle.host_io.proofs.reading.read_front.Goals as goal
 
-pub returns-in-Err-clause-stops : goal.returns-in-Err-clause-stops
-returns-in-Err-clause-stops g c =
-    read_stopped _ _ _ _ _ _ _ _ _ _ c.in-Err.stop c.loop-piece.invariant.so c.in-Err.ensures.read
+pub returns-in_err-take_piece-clause-stops : goal.returns-in_err-take_piece-clause-stops
+returns-in_err-take_piece-clause-stops g c =
+    let stops = read_stopped _ _ _ _ _ _ _ c.in_err-take_piece.field-0.0 c.loop-piece.invariant.so c.in_err-take_piece.ensures.read in
+    search rules
 
-pub returns-in-Err-clause-taken : goal.returns-in-Err-clause-taken
-returns-in-Err-clause-taken g c = read_some _ _ _ _ _ _ _ _ _ _ _ c.loop-piece.invariant.so c.in-Err.ensures.read
+pub returns-in_err-take_piece-clause-taken : goal.returns-in_err-take_piece-clause-taken
+returns-in_err-take_piece-clause-taken g c =
+    read_some _ _ _ _ _ _ _ _ c.loop-piece.invariant.so c.in_err-take_piece.ensures.read

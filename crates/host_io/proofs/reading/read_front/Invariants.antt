@@ -5,7 +5,7 @@ use Rattle.host_io.proofs.reading.read_front.Given as goal
 abbrev pub invariant-loop-piece : goal.invariant-loop-piece
 invariant-loop-piece g l = record {
   size : length l.piece ≡ 4096;
-  so : ReadSoFar (g.S.Source.left l.fn.source) (g.S.Source.left l.source) (g.S.Source.faults l.fn.source) (g.S.Source.faults l.source) l.most l.taken.items;
+  so : ReadSoFar (g.S.Source.state l.fn.source) (g.S.Source.state l.source) l.most l.taken.items;
 }
 
 abbrev pub decreases-loop-piece : goal.decreases-loop-piece

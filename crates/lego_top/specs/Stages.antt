@@ -1,0 +1,54 @@
+-- How each stage of a command ends.
+use Rattle.std.specs.Prelude.{◌≡◌, ℕ, ◌<◌, ◌≤◌, ◌⊎◌, List, length, Option, Some, None, Result, Ok, Err}
+use Rattle.lego_base.specs.Counts.{Rose}
+use Rattle.lego_base.specs.declared.report.EndWord.{EndWord}
+use Rattle.lego_base.specs.declared.sizes.TheConstants.{LONGEST_FILE}
+use Rattle.host_io.specs.Depots.{DepotState, Has}
+use Rattle.desc_read.specs.declared.plan.Plan.{Plan}
+use Rattle.elf_image.specs.Image.{first_fault}
+use Rattle.kernel_model.specs.State as kernel
+use Rattle.plain_kernel.specs.declared.run.PlainEnd.{PlainEnd}
+use Rattle.lego_top.specs.declared.ending.Ending.{Ending}
+use Rattle.lego_top.specs.declared.depot_file.FetchFault.{FetchFault}
+use Rattle.lego_top.specs.declared.depot_file.FetchFault.TheVariants as fetch
+use Rattle.lego_top.specs.declared.leaving.LeaveFault.{LeaveFault}
+use Rattle.lego_top.specs.declared.leaving.LeaveFault.TheVariants as leave
+use Rattle.lego_top.specs.declared.program_run.RunFault.{RunFault}
+use Rattle.lego_top.specs.declared.program_run.RunFault.TheVariants as run
+use Rattle.lego_top.specs.Outside.{Outside, outlets, Quiet}
+use Rattle.lego_top.specs.Inputs.{Planned, booted}
+use Rattle.lego_top.specs.Causes.{Caused, Ended, EndedUnput, Cut, Stopped, StoppedAtCall}
+use Rattle.lego_top.specs.Report.{PutBoth, PutPart, report_from, archive_from}
+
+-- why a name gives no file
+abbrev pub Unfetched : DepotState → DepotState → List ℕ → FetchFault → Type 0
+Unfetched before after name (fetch.Missing missing) = (missing ≡ name) × Has before.files name None
+Unfetched before after name (fetch.Long long) = (bytes : List ℕ) × (long ≡ name) × Has before.files name (Some bytes) × (LONGEST_FILE < length bytes)
+Unfetched before after name fetch.Depot = Rose before.faults after.faults
+Unfetched before after name fetch.NoMemory = Unit {0}
+
+-- a file under a name
+abbrev pub Fetched : DepotState → DepotState → List ℕ → Result (List ℕ) FetchFault → Type 0
+Fetched before after name (Ok bytes) = Has before.files name (Some bytes) × (length bytes ≤ LONGEST_FILE)
+Fetched before after name (Err fault) = Unfetched before after name fault
+
+-- the plan of the description under a name, or the cause of another ending
+abbrev pub Described : List ℕ → Outside → Outside → Result Plan Ending → Type 0
+Described name before after (Ok plan) = (p : Planned (Some name) before) × (p.plan ≡ plan)
+Described name before after (Err ending) = Caused (Some name) before after ending
+
+-- the report and the archive of a run in the depot
+abbrev pub Left : Plan → PlainEnd → DepotState → DepotState → Result (Unit {0}) LeaveFault → Type 0
+Left plan end before after (Ok done) = PutBoth plan (report_from end) (archive_from end) before.files after.files
+Left plan end before after (Err leave.Depot) = Rose before.faults after.faults × PutPart plan (report_from end) before.files after.files
+Left plan end before after (Err leave.NoMemory) = after.files ≡ before.files
+
+-- the run of the program in a file
+abbrev pub RanProgram : Plan → List ℕ → List ℕ → Outside → Outside → Result EndWord RunFault → Type 0
+RanProgram plan program input before after (Ok word) = (first_fault program ≡ None) × Ended (outlets before) (outlets after) word plan (booted plan program input)
+RanProgram plan program input before after (Err (run.Image fault)) = (first_fault program ≡ Some fault) × Quiet before after
+RanProgram plan program input before after (Err run.Unbuilt) = (first_fault program ≡ None) × StoppedAtCall (outlets before) (outlets after) plan (booted plan program input)
+RanProgram plan program input before after (Err run.Out) = Rose before.out.faults after.out.faults × (first_fault program ≡ None) × Cut (outlets before) (outlets after) kernel.Out plan (booted plan program input)
+RanProgram plan program input before after (Err run.Err) = Rose before.err.faults after.err.faults × (first_fault program ≡ None) × Cut (outlets before) (outlets after) kernel.Err plan (booted plan program input)
+RanProgram plan program input before after (Err run.Depot) = Rose before.depot.faults after.depot.faults × (first_fault program ≡ None) × EndedUnput (outlets before) (outlets after) plan (booted plan program input)
+RanProgram plan program input before after (Err run.NoMemory) = Quiet before after ⊎ ((first_fault program ≡ None) × Stopped (outlets before) (outlets after) plan (booted plan program input))
