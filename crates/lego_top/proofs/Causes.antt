@@ -80,9 +80,9 @@ module _ (asked : Option (List ℕ)) (before after : Outside) (count : ℕ) (low
   pub run_failed : (fault : RunFault) → RanProgram fed.loaded.planned.plan fed.loaded.image fed.input begun (record after { input = before.input }) (Err fault) → Caused asked before after (of_run fault)
   run_failed (run.Image fault) ran = (fed, ran.0, ran.1)
   run_failed run.Unbuilt ran = record { fed = fed; good = ran.0; did = ran.1 }
-  run_failed run.Out ran = (ran.0, record { fed = fed; good = ran.1; did = ran.2 })
-  run_failed run.Err ran = (ran.0, record { fed = fed; good = ran.1; did = ran.2 })
-  run_failed run.Depot ran = (Rose-earlier before.depot.faults count after.depot.faults low ran.0, inr (record { fed = fed; good = ran.1; did = ran.2 }))
+  run_failed run.Out ran = (ran.0, record { fed = fed; good = ran.1.0; did = ran.1.1 })
+  run_failed run.Err ran = (ran.0, record { fed = fed; good = ran.1.0; did = ran.1.1 })
+  run_failed run.Depot ran = (Rose-earlier before.depot.faults count after.depot.faults low ran.0, inr (record { fed = fed; good = ran.1.0; did = ran.1.1 }))
   run_failed run.NoMemory (inl quiet) = inl (fed.loaded.planned.found.name, fed.loaded.planned.found.is_asked, quiet)
   run_failed run.NoMemory (inr ran) = inr (record { fed = fed; good = ran.0; did = ran.1 })
 

@@ -14,6 +14,7 @@ use Rattle.lego_top.specs.declared.leaving.LeaveFault.TheVariants as leave
 use Rattle.lego_top.specs.declared.program_run.RunFault.{RunFault}
 use Rattle.lego_top.specs.Outside.{Outside, outlets}
 use Rattle.lego_top.specs.Inputs.{booted}
+use Rattle.lego_top.specs.Causes.{EndedUnput}
 use Rattle.lego_top.specs.Endings.{of_leave}
 use Rattle.lego_top.specs.Report.{report_in, archive_in, PutBoth, PutPart, report_from, archive_from}
 use Rattle.lego_top.specs.Stages.{Left, RanProgram}
@@ -41,17 +42,15 @@ module _ (plan : Plan) (program input : List ℕ) (good : first_fault program �
   )
 
   pub left_part : (fault : LeaveFault) → Left plan end before.depot after.depot (Err fault) → RanProgram plan program input before after (Err (of_leave fault))
-  left_part leave.Depot left = (
-    left.0,
-    good,
-    record {
-      word = end.ended.word;
-      turns = end.ended.turns;
-      ends = ran.ends;
-      took = ran.took;
-      put = subst (λ (report : List ℕ). PutPart plan report before.depot.files after.depot.files) report_is left.1;
-    },
-  )
+  left_part leave.Depot left =
+      let did : EndedUnput (outlets before) (outlets after) plan (booted plan program input) = record {
+        word = end.ended.word;
+        turns = end.ended.turns;
+        ends = ran.ends;
+        took = ran.took;
+        put = subst (λ (report : List ℕ). PutPart plan report before.depot.files after.depot.files) report_is left.1;
+      } in
+      (left.0, (good, did))
   left_part leave.NoMemory left = inr (good, (record { turns = end.ended.turns; through = ran.ends.through; took = ran.took }, left))
 
 pub ran_with : (plan : Plan) (program input : List ℕ) (before after : Outside) (result : Result EndWord RunFault) (fault : RunFault) → IsErrAnd result (λ e. e ≡ fault) → RanProgram plan program input before after (Err fault) → RanProgram plan program input before after result

@@ -58,14 +58,19 @@ Caused asked before after Spent = Ran asked before after (Ended (outlets before)
 Caused asked before after Stuck = Ran asked before after (Ended (outlets before) (outlets after) words.Stuck)
 Caused asked before after Usage = (asked ≡ None) × Quiet before after × Unread before after
 Caused asked before after (Missing name) = Names asked before name × Has before.depot.files name None × Quiet before after × Unread before after
-Caused asked before after (FileLong name) = (bytes : List ℕ) × Names asked before name × Has before.depot.files name (Some bytes) × (LONGEST_FILE < length bytes) × Quiet before after × Unread before after
-Caused asked before after (BadDesc flaw place) = (f : Found asked before) × (described f.bytes ≡ refused flaw place) × Quiet before after × Unread before after
-Caused asked before after (Unbuilt parts.Files) = (f : Found asked before) × (plan : Plan) × (described f.bytes ≡ Ok plan) × (0 < length plan.files) × Quiet before after × Unread before after
+Caused asked before after (FileLong name) =
+    (bytes : List ℕ) × Names asked before name × Has before.depot.files name (Some bytes) × (LONGEST_FILE < length bytes)
+    × Quiet before after × Unread before after
+Caused asked before after (BadDesc flaw place) =
+    (f : Found asked before) × (described f.bytes ≡ refused flaw place) × Quiet before after × Unread before after
+Caused asked before after (Unbuilt parts.Files) =
+    (f : Found asked before) × (plan : Plan) × (described f.bytes ≡ Ok plan) × (0 < length plan.files) × Quiet before after × Unread before after
 Caused asked before after InputFault = Loaded asked before × Rose before.input.faults after.input.faults × Quiet before after
 Caused asked before after InputLong = Loaded asked before × IsLonger LONGEST_FILE before.input.left × Quiet before after
 Caused asked before after (BadImage fault) = (fed : Fed asked before after) × (first_fault fed.loaded.image ≡ Some fault) × Quiet before after
 Caused asked before after (Unbuilt parts.Call) = Ran asked before after (StoppedAtCall (outlets before) (outlets after))
 Caused asked before after OutFault = Rose before.out.faults after.out.faults × Ran asked before after (Cut (outlets before) (outlets after) kernel.Out)
 Caused asked before after ErrFault = Rose before.err.faults after.err.faults × Ran asked before after (Cut (outlets before) (outlets after) kernel.Err)
-Caused asked before after DepotFault = Rose before.depot.faults after.depot.faults × (Unbegun asked before after ⊎ Ran asked before after (EndedUnput (outlets before) (outlets after)))
+Caused asked before after DepotFault =
+    Rose before.depot.faults after.depot.faults × (Unbegun asked before after ⊎ Ran asked before after (EndedUnput (outlets before) (outlets after)))
 Caused asked before after NoMemory = Unbegun asked before after ⊎ Ran asked before after (Stopped (outlets before) (outlets after))

@@ -23,7 +23,8 @@ pub record PutBoth (plan : Plan) (report archive : List ℕ) (before after : Opt
 
 -- the depot failed at the report, whose entry alone may have changed, or after it at the archive
 abbrev pub PutPart : Plan → List ℕ → Option Files → Option Files → Type 0
-PutPart plan report before after = OthersStay before after plan.report ⊎ ((between : Option Files) × Set before between plan.report report × OthersStay between after plan.archive)
+PutPart plan report before after =
+    OthersStay before after plan.report ⊎ ((between : Option Files) × Set before between plan.report report × OthersStay between after plan.archive)
 
 -- the report and the archive of a run that came to its end
 abbrev pub report_from : PlainEnd → List ℕ

@@ -7,6 +7,7 @@ use Rattle.host_io.specs.Depots.{DepotState, Has}
 use Rattle.desc_read.specs.declared.plan.Plan.{Plan}
 use Rattle.elf_image.specs.Image.{first_fault}
 use Rattle.kernel_model.specs.State as kernel
+use Rattle.kernel_model.specs.State.{Kernel}
 use Rattle.plain_kernel.specs.declared.run.PlainEnd.{PlainEnd}
 use Rattle.lego_top.specs.declared.ending.Ending.{Ending}
 use Rattle.lego_top.specs.declared.depot_file.FetchFault.{FetchFault}
@@ -43,12 +44,20 @@ Left plan end before after (Ok done) = PutBoth plan (report_from end) (archive_f
 Left plan end before after (Err leave.Depot) = Rose before.faults after.faults × PutPart plan (report_from end) before.files after.files
 Left plan end before after (Err leave.NoMemory) = after.files ≡ before.files
 
+-- the program is an image, and this was done with the kernel that is booted with it
+abbrev pub Began : Plan → List ℕ → List ℕ → (Plan → Kernel → Type 0) → Type 0
+Began plan program input Did = (first_fault program ≡ None) × Did plan (booted plan program input)
+
 -- the run of the program in a file
 abbrev pub RanProgram : Plan → List ℕ → List ℕ → Outside → Outside → Result EndWord RunFault → Type 0
-RanProgram plan program input before after (Ok word) = (first_fault program ≡ None) × Ended (outlets before) (outlets after) word plan (booted plan program input)
+RanProgram plan program input before after (Ok word) = Began plan program input (Ended (outlets before) (outlets after) word)
 RanProgram plan program input before after (Err (run.Image fault)) = (first_fault program ≡ Some fault) × Quiet before after
-RanProgram plan program input before after (Err run.Unbuilt) = (first_fault program ≡ None) × StoppedAtCall (outlets before) (outlets after) plan (booted plan program input)
-RanProgram plan program input before after (Err run.Out) = Rose before.out.faults after.out.faults × (first_fault program ≡ None) × Cut (outlets before) (outlets after) kernel.Out plan (booted plan program input)
-RanProgram plan program input before after (Err run.Err) = Rose before.err.faults after.err.faults × (first_fault program ≡ None) × Cut (outlets before) (outlets after) kernel.Err plan (booted plan program input)
-RanProgram plan program input before after (Err run.Depot) = Rose before.depot.faults after.depot.faults × (first_fault program ≡ None) × EndedUnput (outlets before) (outlets after) plan (booted plan program input)
-RanProgram plan program input before after (Err run.NoMemory) = Quiet before after ⊎ ((first_fault program ≡ None) × Stopped (outlets before) (outlets after) plan (booted plan program input))
+RanProgram plan program input before after (Err run.Unbuilt) = Began plan program input (StoppedAtCall (outlets before) (outlets after))
+RanProgram plan program input before after (Err run.Out) =
+    Rose before.out.faults after.out.faults × Began plan program input (Cut (outlets before) (outlets after) kernel.Out)
+RanProgram plan program input before after (Err run.Err) =
+    Rose before.err.faults after.err.faults × Began plan program input (Cut (outlets before) (outlets after) kernel.Err)
+RanProgram plan program input before after (Err run.Depot) =
+    Rose before.depot.faults after.depot.faults × Began plan program input (EndedUnput (outlets before) (outlets after))
+RanProgram plan program input before after (Err run.NoMemory) =
+    Quiet before after ⊎ Began plan program input (Stopped (outlets before) (outlets after))

@@ -66,8 +66,14 @@ pub record ComesToCall (schedule : Schedule) (boot : Kernel) (turns : ℕ) : Typ
 
 -- Then the answer is the flat run's, or memory ran out.
 pub record Complete (asked : Option (List ℕ)) (before after : Outside) (result : Ending) : Type 0 where
-  pub ended : (fine : IsFine asked before after) (turns : ℕ) (word : EndWord) → EndsAfter (schedule_of fine.plan) (booted fine.plan fine.image fine.input) turns word → (result ≡ ending_of word) ⊎ (result ≡ NoMemory)
-  pub unbuilt : (fine : IsFine asked before after) (turns : ℕ) → ComesToCall (schedule_of fine.plan) (booted fine.plan fine.image fine.input) turns → (result ≡ Unbuilt parts.Call) ⊎ (result ≡ NoMemory)
+  pub ended :
+      (fine : IsFine asked before after) (turns : ℕ) (word : EndWord) →
+      EndsAfter (schedule_of fine.plan) (booted fine.plan fine.image fine.input) turns word →
+      (result ≡ ending_of word) ⊎ (result ≡ NoMemory)
+  pub unbuilt :
+      (fine : IsFine asked before after) (turns : ℕ) →
+      ComesToCall (schedule_of fine.plan) (booted fine.plan fine.image fine.input) turns →
+      (result ≡ Unbuilt parts.Call) ⊎ (result ≡ NoMemory)
 
 -- the theorem
 pub record Answered (asked : Option (List ℕ)) (before after : Outside) (result : Ending) : Type 0 where
