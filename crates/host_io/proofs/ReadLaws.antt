@@ -1,5 +1,5 @@
 -- How a source is read to its end, piece by piece.
-use Rattle.std.proofs.Common.{ℕ, ◌+◌, ◌≤◌, List, length, Option, Result, Err}
+use Rattle.std.proofs.Common.{ℕ, ◌+◌, ◌≤◌, List, length, Result, Err}
 use Rattle.host_io.specs.Sources.{SourceState, Gave, GaveSome}
 use Rattle.host_io.specs.Inputs.{Stops, ReadPiece}
 use Rattle.host_io.specs.declared.reading.InputStop.{InputStop}

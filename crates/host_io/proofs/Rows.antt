@@ -7,7 +7,7 @@ use Rattle.host_io.specs.Depots.{no_files, with_entry}
 use Rattle.host_io.specs.Calls.{untried, is_due, counted}
 use Rattle.host_io.specs.Objects.{looked_up}
 
--- a count of 3 becomes 4, and a full count stands still
+-- a count of 3 becomes 4, and a full count stays
 one_more : risen 3 ≡ 4
 one_more = refl
 
@@ -15,11 +15,11 @@ full : risen (2 ^ 64 - 1) ≡ 2 ^ 64 - 1
 full = refl
 
 -- at 3 faults no count of 3 has risen, and at the type's end every count has
-stands : Calm 3 3
-stands = lit< tt
+calm : Calm 3 3
+calm = lit< tt
 
-ends : Rose (2 ^ 64 - 1) (2 ^ 64 - 1)
-ends = lit≤ tt
+rises : Rose (2 ^ 64 - 1) (2 ^ 64 - 1)
+rises = lit≤ tt
 
 -- a sink that holds 1 takes 2 and 3
 took : TookAll (Some (1 ∷ [])) (Some (1 ∷ 2 ∷ 3 ∷ [])) (2 ∷ 3 ∷ [])

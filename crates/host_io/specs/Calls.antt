@@ -13,7 +13,7 @@ pub record Calls : Type 0 where
 abbrev pub untried : List ℕ → Calls
 untried fails = record { fails = fails; made = 0; faults = 0 }
 
--- the number of the next call, which stands still at its type's end
+-- the number of the next call, which stays at 2^64 - 1 once it is there
 abbrev pub next_call : Calls → ℕ
 next_call c = min (c.made + 1) (2 ^ 64 - 1)
 

@@ -1,5 +1,5 @@
 -- Why a source wasn't read to its end.
-use Rattle.std.specs.Prelude.{◌≡◌, ℕ, ◌<◌, ◌≤◌, List, ◌++◌, length, Option, Result, IfOk, IfErr}
+use Rattle.std.specs.Prelude.{◌≡◌, ℕ, ◌<◌, ◌≤◌, List, ◌++◌, length, Result, IfOk, IfErr}
 use Rattle.lego_base.specs.Counts.{Rose}
 use Rattle.host_io.specs.Sources.{SourceState, Gave, GaveSome, IsDry, IsLonger}
 use Rattle.host_io.specs.declared.reading.InputStop.{InputStop}

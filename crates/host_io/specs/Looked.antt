@@ -1,5 +1,5 @@
 -- What the answers of a look-up say.
-use Rattle.std.specs.Prelude.{ℕ, List, Option, Some, None}
+use Rattle.std.specs.Prelude.{ℕ, List, Some, None}
 use Rattle.lego_base.specs.Counts.{risen, Rose}
 use Rattle.host_io.specs.Depots.{DepotState, Has}
 use Rattle.host_io.specs.declared.depot.Got.{Got}

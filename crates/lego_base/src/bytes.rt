@@ -89,13 +89,6 @@ impl Bytes {
     {
         set_items(&mut self.items, bytes);
     }
-
-    /// A clone, as [`NoMemory`] has its error.
-    pub fn copy(&self, _alloc: Global) -> Result<Bytes, NoMemory>
-        ensures { IfOk result (λ b. b ≡ self.now) }
-    {
-        Ok(self.clone()?)
-    }
 }
 
 impl Clone for Bytes {

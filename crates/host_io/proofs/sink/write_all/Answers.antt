@@ -1,4 +1,3 @@
-use Rattle.std.proofs.Common.{refl, arith}
 use Rattle.host_io.proofs.SinkLaws.{wrote_nothing, wrote_more}
 use Rattle.host_io.proofs.sink.write_all.Goals as goal
 
