@@ -7,10 +7,10 @@ use std::io::ErrorKind;
 use std::process::ExitCode;
 use std::{env, io};
 
-/// The status where memory for the words ran out.
+/// The status if memory for the command line ran out.
 const NO_MEMORY: u8 = 15;
 
-/// The status where the system doesn't give the words otherwise.
+/// The status if the system doesn't give the command line for another reason.
 const NO_WORDS: u8 = 1;
 
 fn main(rt: HostRuntime) -> ExitCode {
@@ -33,7 +33,7 @@ fn main(rt: HostRuntime) -> ExitCode {
     ExitCode::from(ending.status())
 }
 
-// The words of the command line, behind the program's own name.
+// The words of the command line, after the program's own name.
 fn words(rt: &HostRuntime) -> io::Result<Vec<String>> {
     let mut words = Vec::new(rt.alloc());
     for word in env::args(rt)?.skip(1) {
@@ -42,7 +42,7 @@ fn words(rt: &HostRuntime) -> io::Result<Vec<String>> {
     Ok(words)
 }
 
-// The status where there are no words.
+// The status if there is no command line.
 fn status_of(error: &io::Error) -> u8 {
     match error.kind() {
         ErrorKind::OutOfMemory => NO_MEMORY,

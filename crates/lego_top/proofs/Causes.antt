@@ -1,6 +1,5 @@
 -- The cause of each ending, from what the stages say.
 use Rattle.std.proofs.Common.{◌≡◌, ℕ, ◌≤◌, inl, inr, List, [], ◌∷◌, length, Option, Some, None, Result, Ok, Err, IsErrAnd, false, refl, sym, ◌∙◌, ap, subst, arith}
-use Rattle.lego_base.specs.Counts.{Rose}
 use Rattle.lego_base.specs.declared.report.EndWord.{EndWord}
 use Rattle.lego_base.specs.declared.report.EndWord.TheVariants as words
 use Rattle.lego_base.specs.declared.sizes.TheConstants.{LONGEST_FILE}

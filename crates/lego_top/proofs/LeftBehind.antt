@@ -1,5 +1,5 @@
 -- What is left after a run that came to its end.
-use Rattle.std.proofs.Common.{◌≡◌, ℕ, List, [], Option, None, Result, Ok, Err, IsErrAnd, sym, ap, subst, inr}
+use Rattle.std.proofs.Common.{◌≡◌, ℕ, List, [], None, Result, Ok, Err, IsErrAnd, sym, ap, subst, inr}
 use Rattle.lego_base.specs.declared.report.EndWord.{EndWord}
 use Rattle.desc_read.specs.declared.plan.Plan.{Plan}
 use Rattle.elf_image.specs.Image.{first_fault}

@@ -1,5 +1,5 @@
 -- How each stage of a command ends.
-use Rattle.std.specs.Prelude.{◌≡◌, ℕ, ◌<◌, ◌≤◌, ◌⊎◌, List, length, Option, Some, None, Result, Ok, Err}
+use Rattle.std.specs.Prelude.{◌≡◌, ℕ, ◌<◌, ◌≤◌, ◌⊎◌, List, length, Some, None, Result, Ok, Err}
 use Rattle.lego_base.specs.Counts.{Rose}
 use Rattle.lego_base.specs.declared.report.EndWord.{EndWord}
 use Rattle.lego_base.specs.declared.sizes.TheConstants.{LONGEST_FILE}
