@@ -8,7 +8,7 @@ use Rattle.area_list.specs.declared.TheConstants.{PAGES_END}
 use Rattle.area_list.specs.Runs.{end_of, goes_on, IsBefore, IsCanonical, between, below, above, extended, joined}
 use Rattle.area_list.proofs.Pages.{between-is, between-none}
 
--- runs that rise, each with a page, from a page on to before another
+-- runs that rise, each with a page, between two pages
 abbrev pub IsWithin : ℕ → ℕ → List Area → Type 0
 IsWithin low high [] = low ≤ high
 IsWithin low high (area ∷ runs) = (low ≤ area.first.0) × (0 < area.pages) × IsWithin (end_of area) high runs

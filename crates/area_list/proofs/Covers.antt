@@ -70,7 +70,7 @@ covered-whole area runs at left need a b h =
     ∙ covered-within area runs at left 0 need a b h
     ∙ covered-none (area ∷ runs) (at + left) 0 need refl
 
--- what is left of a range behind the first run
+-- what is left of a range after the first run
 pub covered-rest : (area : Area) (runs : List Area) (at left : ℕ) (need : Perms) → area.first.0 ≤ at → at < end_of area → end_of area - at < left → has_all (Some area.perms) need ≡ true → covered (area ∷ runs) at left need ≡ covered runs (end_of area) (left - (end_of area - at)) need
 covered-rest area runs at left need a b l h =
     ap (λ (n : ℕ). covered (area ∷ runs) at n need) (let e : left ≡ (end_of area - at) + (left - (end_of area - at)) = omega arith in e)

@@ -24,7 +24,7 @@ meets area runs page pages p q h k gap =
       | inr l ↦ none-some area.perms (sym (gap.free page (omega arith) (omega arith)) ∙ perms-hit area runs page l h)
     ]
 
--- gaps behind the first run are those of the other runs
+-- gaps after the first run are those of the other runs
 behind : (area : Area) (runs : List Area) (page pages : ℕ) → end_of area ≤ page → IsGap (area ∷ runs) page pages → IsGap runs page pages
 behind area runs page pages h gap = record { ends = gap.ends; free = λ q a b. sym (perms-miss area runs q (inr (omega arith))) ∙ gap.free q a b }
 
@@ -118,7 +118,7 @@ pub gap-past : (runs : List Area) (i : ℕ) (run : Area) (at first pages : ℕ) 
 gap-past runs i run at first pages h same past =
     sym (ap (λ r. gap_between r at pages) (drop_more runs i run h) ∙ cond-false _ _ _ (lt-leb _ _ past)) ∙ same
 
--- the gap behind all runs
+-- the gap after all runs
 pub gap-behind : (runs : List Area) (i : ℕ) (at first pages : ℕ) → length runs ≤ i → (pages ≡ 0 → ⊥) → gap_between (drop i runs) at pages ≡ gap_between runs first pages → lowest_gap runs first pages ≡ if_it_ends at pages
 unfolding lowest_gap
 gap-behind runs i at first pages h p same =

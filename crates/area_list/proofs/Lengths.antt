@@ -1,4 +1,4 @@
--- Runs put behind one another, a few at a time, and how many they are at least.
+-- Runs appended a few at a time, and the least number of them.
 use Rattle.std.proofs.Common.{◌≡◌, ℕ, ◌+◌, ◌<◌, ◌≤◌, min, max, Result, Ok, Err, OnErr, true, false, List, [], ◌∷◌, ◌++◌, length, get_or, drop, inl, inr, refl, sym, ◌∙◌, ap, subst, arith, append_assoc}
 use Rattle.std.proofs.lemmas.Bool.{cond-true, cond-false, cases_Bool}
 use Rattle.lego_base.specs.declared.records.Area.{Area}
@@ -28,7 +28,7 @@ pub length-joined : (runs more : List Area) → length runs ≤ length (joined r
 length-joined runs [] = omega arith
 length-joined runs (next ∷ more) = omega (arith, length-extended runs next, length-joined (extended runs next) more)
 
--- putting a run behind others, in the three ways that there are
+-- appending a run, in each of the ways in which that is done
 pub push-longer : (old front new : List Area) (last next : Area) → old ≡ front ++ last ∷ [] → goes_on last next ≡ true → new ≡ front ++ record last { pages = last.pages + next.pages } ∷ [] → new ≡ extended old next
 push-longer old front new last next was e is = is ∙ sym (ap (λ r. extended r next) was ∙ extended-last front last next ∙ ap (λ r. front ++ r) (cond-true _ _ _ e))
 
@@ -65,7 +65,7 @@ pub at_err : {T E P : Type 0} (r : Result T E) → P → OnErr r P
 at_err (Ok x) p = tt
 at_err (Err e) p = p
 
--- two lists of runs put behind one another, and three
+-- two lists of runs one after the other, and three
 pub in_two : (start left right first second : List Area) → start ≡ [] → first ≡ joined start left → second ≡ joined first right → second ≡ joined [] (left ++ right)
 in_two start left right first second empty one two = two ∙ ap (λ r. joined r right) (one ∙ ap (λ r. joined r left) empty) ∙ sym (joined-append [] left right)
 

@@ -48,7 +48,7 @@ perms-append (area ∷ runs) more page =
 pub same_perms : (perms perms' : Perms) → perms.0 ≡ perms'.0 → perms ≡ perms'
 same_perms perms perms' e = ap (λ (n : ℕ). record { 0 = n }) e
 
--- a run with the run that goes on behind it says what the two say
+-- a run joined with the run that continues it says what the two say
 pub perms-longer : (area next : Area) (page : ℕ) → goes_on area next ≡ true → perms_of (record area { pages = area.pages + next.pages } ∷ []) page ≡ perms_of (area ∷ next ∷ []) page
 perms-longer area next page e =
     let parts = and_parts _ _ e in

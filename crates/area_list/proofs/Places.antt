@@ -37,7 +37,7 @@ before-run [] i run page c h a = absurd (omega arith)
 before-run (area ∷ runs) zero run page c h a = perms-before area.first.0 PAGES_END (area ∷ runs) page (omega arith, c.0, canonical-tail area runs c) a
 before-run (area ∷ runs) (suc i) run page c h a = before-run runs i run page c.3 (omega arith) a
 
--- a page below a run, where there is one, and behind all before it
+-- a page below a run, where there is one, and after all runs before it
 pub between-runs : (runs : List Area) (i : ℕ) (run : Area) (page : ℕ) → IsCanonical runs → (i < length runs → page < (get_or runs i run).first.0) → perms_of (drop i runs) page ≡ None
 between-runs runs i run page c h =
     elim (cases_lt i (length runs)) [

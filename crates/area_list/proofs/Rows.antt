@@ -49,7 +49,7 @@ clears_none : cut_runs 20 0 (run 16 12 3 ∷ []) ≡ run 16 12 3 ∷ []
 unfolding cut_runs
 clears_none = refl
 
--- the place before a run, between two, and behind all
+-- the place before a run, between two, and after all
 gap_before : lowest_gap (run 16 4 3 ∷ run 24 4 3 ∷ []) 10 6 ≡ Some 10
 unfolding lowest_gap
 gap_before = refl

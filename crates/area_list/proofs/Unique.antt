@@ -25,7 +25,7 @@ begins area next runs more c d same h =
     let none : perms_of (next ∷ more) area.first.0 ≡ None = perms-before next.first.0 PAGES_END (next ∷ more) area.first.0 (omega arith, d.0, canonical-tail next more d) h in
     none-some area.perms (sym none ∙ sym (same area.first.0) ∙ hit)
 
--- the page behind a run isn't mapped as the run is
+-- the page after a run isn't mapped as the run is
 behind : (area : Area) (runs : List Area) (perms : Perms) → IsCanonical (area ∷ runs) → area.perms ≡ perms → perms_of runs (end_of area) ≡ Some perms → ⊥
 behind area [] perms c alike e = none-some perms e
 behind area (next ∷ runs) perms c alike e =

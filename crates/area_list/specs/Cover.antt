@@ -9,7 +9,7 @@ abbrev pub has_all : Option Perms → Perms → Bool
 has_all None need = false
 has_all (Some perms) need = bit_and perms.0 need.0 == need.0
 
--- whether each of this many pages from a page on is mapped and has all permissions needed
+-- whether each of `pages` pages, starting at `first`, is mapped and has all permissions needed
 unfoldable pub covered : List Area → ℕ → ℕ → Perms → Bool
 covered runs first zero need = true
 covered runs first (suc pages) need = has_all (perms_of runs first) need && covered runs (first + 1) pages need

@@ -1,3 +1,4 @@
+//! The areas of an address space.
 ghost use Rattle.std.specs.Prelude.{◌≡◌, ℕ, ◌+◌, ◌<◌, ◌≤◌, ◌↔◌, [], length, Some, None, OnOk, OnErr, IfOk, IsErr, MatchOption};
 ghost use Rattle.std.specs.Option.{option_map};
 ghost use Rattle.lego_base.specs.Space.{perms_of};
@@ -5,12 +6,11 @@ ghost use Rattle.area_list.specs.Runs.{IsCanonical, page_count, put_runs, cut_ru
 ghost use Rattle.area_list.specs.Gap.{lowest_gap, IsGap, IsLowestGap};
 ghost use Rattle.area_list.specs.Cover.{covered};
 
-use crate::build::{build_cut, build_put, set_runs};
+use crate::runs::Runs;
 use crate::{MOST_RUNS, PAGES_END, search};
 use lego_base::{Area, NoMemory, Perms, Vpn};
 use std::alloc::Global;
 use std::marker::Model;
-use std::mem;
 
 /// The address space would have more than `MOST_RUNS` runs.
 #[derive(Clone, Copy, Debug, PartialEq, Eq)]
@@ -20,22 +20,21 @@ pub struct TooMany;
 /// order. Contracts see it as the list of the runs.
 #[derive(Debug, Drop)]
 pub struct Areas {
-    runs: Vec<Area>,
-    spare: Vec<Area>, // where `put` and `cut` build the next runs; what it holds means nothing
+    runs: Runs,
+    spare: Runs, // where `put` and `cut` build the next runs; what it holds means nothing
 }
 
 impl Model for Areas {
-    ghost use Rattle.std.specs.Prelude.{List, ◌≤◌, length, vec_capacity};
+    ghost use Rattle.std.specs.Prelude.{List};
     ghost use Rattle.lego_base.specs.declared.records.Area.{Area};
 
     ghost Value = { List Area };
 
-    ghost use Rattle.area_list.specs.declared.TheConstants.{MOST_RUNS};
     ghost use Rattle.area_list.specs.Runs.{IsCanonical};
 
-    ghost view = { λ a. a.runs.items };
+    ghost view = { λ a. a.runs };
 
-    ghost invariant = { λ a. IsCanonical a.runs.items × (length a.runs.items ≤ MOST_RUNS) × (MOST_RUNS ≤ vec_capacity a.runs) × (MOST_RUNS ≤ vec_capacity a.spare) };
+    ghost invariant = { λ a. IsCanonical a.runs };
 }
 
 impl Areas {
@@ -43,12 +42,12 @@ impl Areas {
     pub fn new(alloc: Global) -> Result<Areas, NoMemory>
         ensures { IfOk result (λ areas. areas ≡ []) }
     {
-        let runs = Vec::with_capacity(alloc, MOST_RUNS)?;
-        let spare = Vec::with_capacity(alloc, MOST_RUNS)?;
+        let runs = Runs::new(alloc)?;
+        let spare = Runs::new(alloc)?;
         Ok(Areas { runs, spare })
     }
 
-    /// Maps the `pages` pages from `first` on with these permissions, whatever they had, as `mmap(2)`
+    /// Maps `pages` pages, starting at `first`, with these permissions, whatever they had, as `mmap(2)`
     /// with `MAP_FIXED` and `mprotect(2)` do.
     pub fn put(&mut self, first: Vpn, pages: u64, perms: Perms) -> Result<(), TooMany>
         requires { first.0 + pages ≤ PAGES_END }
@@ -61,12 +60,13 @@ impl Areas {
         ensures too_many { IsErr result ↔ (MOST_RUNS < length (put_runs first.0 pages perms self.old)) }
         ensures err { OnErr result (self.new ≡ self.old) }
     {
-        build_put(self.runs.as_slice(), first.0, pages, perms, &mut self.spare)?;
-        mem::swap(&mut self.runs, &mut self.spare);
+        self.spare
+            .build_put(self.runs.as_slice(), first.0, pages, perms)?;
+        self.runs.swap(&mut self.spare);
         Ok(())
     }
 
-    /// Unmaps the `pages` pages from `first` on, as `munmap(2)` does.
+    /// Unmaps `pages` pages, starting at `first`, as `munmap(2)` does.
     pub fn cut(&mut self, first: Vpn, pages: u64) -> Result<(), TooMany>
         requires { first.0 + pages ≤ PAGES_END }
 
@@ -78,8 +78,8 @@ impl Areas {
         ensures too_many { IsErr result ↔ (MOST_RUNS < length (cut_runs first.0 pages self.old)) }
         ensures err { OnErr result (self.new ≡ self.old) }
     {
-        build_cut(self.runs.as_slice(), first.0, pages, &mut self.spare)?;
-        mem::swap(&mut self.runs, &mut self.spare);
+        self.spare.build_cut(self.runs.as_slice(), first.0, pages)?;
+        self.runs.swap(&mut self.spare);
         Ok(())
     }
 
@@ -90,14 +90,14 @@ impl Areas {
         search::perms_at(self.runs.as_slice(), vpn.0)
     }
 
-    /// Whether each of the `pages` pages from `first` on is mapped and has all permissions of `need`.
+    /// Whether each of the `pages` pages that start at `first` is mapped and has all permissions of `need`.
     pub fn covers(&self, first: Vpn, pages: u64, need: Perms) -> bool
         ensures { result ≡ covered self.now first.0 pages need }
     {
         search::covers(self.runs.as_slice(), first.0, pages, need)
     }
 
-    /// The lowest page, from `first` on, from which `pages` pages are unmapped and end within the
+    /// The lowest page, `first` or above, at which `pages` unmapped pages start that end within the
     /// address space.
     pub fn gap_from(&self, first: Vpn, pages: u64) -> Option<Vpn>
         ensures gap { option_map (λ at. at.0) result ≡ lowest_gap self.now first.0 pages }
@@ -109,7 +109,7 @@ impl Areas {
         }
     }
 
-    /// How many pages are mapped.
+    /// The number of mapped pages.
     pub fn pages(&self) -> u64
         ensures { result ≡ page_count self.now }
     {
@@ -136,6 +136,6 @@ impl Areas {
     pub fn copy_from(&mut self, other: &Areas)
         ensures { self.new ≡ other.now }
     {
-        set_runs(&mut self.runs, other.runs.as_slice());
+        self.runs.copy_from(&other.runs);
     }
 }

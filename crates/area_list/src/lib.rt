@@ -2,15 +2,16 @@
 //! of them, as `mmap(2)`, `munmap(2)`, `mprotect(2)` and `brk(2)` set and clear them.
 //!
 //! Contracts see [`Areas`] as the list of its runs, which is canonical: `IsCanonical` of `specs/Runs`.
-//! What the list says of a page is `perms_of` of lego_base. Setting and clearing a range are `put_runs`
-//! and `cut_runs` there; the lowest free place is `lowest_gap` of `specs/Gap`. Only `Areas::new` takes
-//! memory. That these definitions say what their names say, page by page, is promised in `laws`.
+//! What the list says of a page is `perms_of` of lego_base. Setting a range changes just its pages, `IsPut`
+//! there, and `put_runs` are the runs that do; clearing is `IsCut` and `cut_runs`. The lowest free place is
+//! `lowest_gap` of `specs/Gap`. Only `Areas::new` takes memory. That the definitions mean what their names
+//! say, page by page, is promised in `laws`.
 #![tactic(auto)]
 
-mod areas; // the areas of an address space
-mod build; // runs put behind one another
-mod laws; // what the definitions say of single pages
-mod search; // what runs say of pages
+mod areas;
+mod laws;
+mod runs;
+mod search;
 #[cfg(test)]
 mod tests;
 
@@ -20,9 +21,9 @@ pub use laws::{
     one_need_is_allowed, put_sets_a_range,
 };
 
-/// How many runs an address space has at most.
+/// The most runs that an address space can have.
 pub const MOST_RUNS: usize = 256;
 
-/// The page behind the last page of an address space: the end of the addresses, 2^38, in pages of 4096
+/// The page after the last page of an address space: the end of the addresses, 2^38, in pages of 4096
 /// bytes.
 pub const PAGES_END: u64 = 1 << 26;

@@ -1,3 +1,4 @@
+//! What runs say of pages.
 ghost use Rattle.std.specs.Prelude.{◌≡◌};
 ghost use Rattle.lego_base.specs.Space.{perms_of};
 ghost use Rattle.area_list.specs.Runs.{IsCanonical, page_count};
@@ -8,13 +9,13 @@ use crate::PAGES_END;
 use bitflags::Flags;
 use lego_base::{Area, Perms};
 
-// The permissions of a page, where a run has it, by halving the runs that may have it.
+// The permissions of a page, where a run has it, by binary search.
 pub fn perms_at(runs: &[Area], page: u64) -> Option<Perms>
     requires { IsCanonical runs.now }
     ensures { result ≡ perms_of runs.now page }
 {
     let mut low = 0; // the runs before this one end at or below the page
-    let mut high = runs.len(); // the runs from this one on begin above the page
+    let mut high = runs.len(); // this run and those after it begin above the page
     while low < high {
         let middle = low + (high - low) / 2;
         let run = runs[middle];
@@ -35,7 +36,7 @@ pub fn covers(runs: &[Area], first: u64, pages: u64, need: Perms) -> bool
     ensures { result ≡ covered runs.now first pages need }
 {
     let mut at = first; // the first page that isn't known to have them
-    let mut left = pages; // how many pages from there on
+    let mut left = pages; // the number of pages that start there
     for run in runs {
         let end = run.first.0 + run.pages;
         if left == 0 {
@@ -56,7 +57,8 @@ pub fn covers(runs: &[Area], first: u64, pages: u64, need: Perms) -> bool
     left == 0
 }
 
-// The lowest page from `first` on from which `pages` pages are unmapped and end within the address space.
+// The lowest page, `first` or above, at which `pages` unmapped pages start that end within the address
+// space.
 pub fn lowest_gap(runs: &[Area], first: u64, pages: u64) -> Option<u64>
     requires { IsCanonical runs.now }
     ensures { result ≡ lowest_gap runs.now first pages }
@@ -81,7 +83,7 @@ pub fn lowest_gap(runs: &[Area], first: u64, pages: u64) -> Option<u64>
     }
 }
 
-// How many pages the runs have.
+// The number of pages that the runs have.
 pub fn pages(runs: &[Area]) -> u64
     requires { IsCanonical runs.now }
     ensures { result ≡ page_count runs.now }

@@ -1,3 +1,4 @@
+//! Runs that merge, split and are refused.
 use crate::{Areas, TooMany};
 use lego_base::{Area, Perms, Vpn};
 use std::test::Fail;

@@ -1,0 +1,10 @@
+use Rattle.std.proofs.Common.{◌≡◌, drop}
+use Rattle.area_list.specs.Runs.{IsCanonical, below, joined}
+use Rattle.area_list.proofs.runs.Runs.append_below.Given as goal
+
+-- the runs that are left, appended to what there is, give what all of them give
+abbrev pub invariant-loop-run : goal.invariant-loop-run
+invariant-loop-run l = record {
+  canonical : IsCanonical (drop l.run-index l.runs);
+  rest : joined l.self (below l.page (drop l.run-index l.runs)) ≡ joined l.fn.self (below l.page l.runs);
+}
