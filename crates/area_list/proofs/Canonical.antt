@@ -4,7 +4,7 @@ use Rattle.std.proofs.lemmas.Bool.{cond-true, cond-false, and_parts, cases_lt, c
 use Rattle.std.proofs.lemmas.List.Sums.{sum_by-cons}
 use Rattle.lego_base.specs.declared.perms.Perms.{Perms}
 use Rattle.lego_base.specs.declared.records.Area.{Area}
-use Rattle.area_list.specs.declared.TheConstants.{PAGES_END}
+use Rattle.lego_base.specs.declared.sizes.TheConstants.{PAGES_END}
 use Rattle.area_list.specs.Runs.{end_of, goes_on, IsBefore, IsCanonical, between, below, above, extended, joined}
 use Rattle.area_list.proofs.Pages.{between-is, between-none}
 

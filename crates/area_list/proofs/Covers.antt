@@ -6,7 +6,7 @@ use Rattle.lego_base.specs.declared.perms.Perms.{Perms}
 use Rattle.lego_base.specs.declared.records.Area.{Area}
 use Rattle.std.proofs.lemmas.List.{drop_more}
 use Rattle.lego_base.specs.Space.{perms_of, allows}
-use Rattle.area_list.specs.declared.TheConstants.{PAGES_END}
+use Rattle.lego_base.specs.declared.sizes.TheConstants.{PAGES_END}
 use Rattle.area_list.specs.Runs.{end_of, IsCanonical}
 use Rattle.area_list.specs.Cover.{has_all, covered, CoversEachPage, HasOneIsAllows}
 use Rattle.area_list.proofs.Pages.{perms-hit, perms-miss}

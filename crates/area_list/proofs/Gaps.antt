@@ -5,7 +5,7 @@ use Rattle.std.proofs.lemmas.List.{drop_more, drop_all}
 use Rattle.std.proofs.lemmas.Option.{none-some}
 use Rattle.lego_base.specs.declared.records.Area.{Area}
 use Rattle.lego_base.specs.Space.{perms_of}
-use Rattle.area_list.specs.declared.TheConstants.{PAGES_END}
+use Rattle.lego_base.specs.declared.sizes.TheConstants.{PAGES_END}
 use Rattle.area_list.specs.Runs.{end_of, IsCanonical}
 use Rattle.area_list.specs.Gap.{if_it_ends, gap_between, lowest_gap, IsGap, IsLowestGap, GapIsLowest}
 use Rattle.area_list.proofs.Pages.{perms-hit, perms-miss}

@@ -5,7 +5,7 @@ use Rattle.std.proofs.lemmas.Option.{none-some, same_Some}
 use Rattle.lego_base.specs.declared.perms.Perms.{Perms}
 use Rattle.lego_base.specs.declared.records.Area.{Area}
 use Rattle.lego_base.specs.Space.{perms_of}
-use Rattle.area_list.specs.declared.TheConstants.{PAGES_END}
+use Rattle.lego_base.specs.declared.sizes.TheConstants.{PAGES_END}
 use Rattle.area_list.specs.Runs.{end_of, IsCanonical, between, below, above, joined, put_runs, cut_runs, in_range, PutSets, CutClears}
 use Rattle.area_list.proofs.Pages.{perms-hit, perms-miss, either, either-none, perms-append, perms-joined, between-in, between-out, below-in, below-out, above-in, above-out}
 use Rattle.area_list.proofs.Canonical.{IsWithin, within-append, within-between, within-below, within-above, canonical-tail, canonical-within, canonical-joined}

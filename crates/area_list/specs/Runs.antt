@@ -4,7 +4,7 @@ use Rattle.std.specs.Prelude.{◌≡◌, ◌==◌, ℕ, ◌+◌, ◌-◌, ◌<�
 use Rattle.lego_base.specs.declared.perms.Perms.{Perms}
 use Rattle.lego_base.specs.declared.records.Area.{Area}
 use Rattle.lego_base.specs.Space.{perms_of}
-use Rattle.area_list.specs.declared.TheConstants.{PAGES_END}
+use Rattle.lego_base.specs.declared.sizes.TheConstants.{PAGES_END}
 
 -- the page after the last page of a run
 abbrev pub end_of : Area → ℕ

@@ -1,4 +1,5 @@
 //! The areas of an address space.
+
 ghost use Rattle.std.specs.Prelude.{◌≡◌, ℕ, ◌+◌, ◌<◌, ◌≤◌, ◌↔◌, [], length, Some, None, OnOk, OnErr, IfOk, IsErr, MatchOption};
 ghost use Rattle.std.specs.Option.{option_map};
 ghost use Rattle.lego_base.specs.Space.{perms_of};
@@ -7,8 +8,8 @@ ghost use Rattle.area_list.specs.Gap.{lowest_gap, IsGap, IsLowestGap};
 ghost use Rattle.area_list.specs.Cover.{covered};
 
 use crate::runs::Runs;
-use crate::{MOST_RUNS, PAGES_END, search};
-use lego_base::{Area, NoMemory, Perms, Vpn};
+use crate::{MOST_RUNS, search};
+use lego_base::{Area, NoMemory, PAGES_END, Perms, Vpn};
 use std::alloc::Global;
 use std::marker::Model;
 

@@ -1,4 +1,5 @@
 //! What the definitions say of single pages.
+
 ghost use Rattle.area_list.specs.Runs.{PutSets, CutClears, CanonicalIsUnique};
 ghost use Rattle.area_list.specs.Gap.{GapIsLowest};
 ghost use Rattle.area_list.specs.Cover.{CoversEachPage, HasOneIsAllows};

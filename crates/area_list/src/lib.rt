@@ -23,7 +23,3 @@ pub use laws::{
 
 /// The most runs that an address space can have.
 pub const MOST_RUNS: usize = 256;
-
-/// The page after the last page of an address space: the end of the addresses, 2^38, in pages of 4096
-/// bytes.
-pub const PAGES_END: u64 = 1 << 26;

@@ -1,12 +1,13 @@
 //! Runs that are built one after another, in memory that was taken beforehand.
+
 ghost use Rattle.std.specs.Prelude.{◌≡◌, ◌+◌, ◌<◌, ◌≤◌, ◌^◌, [], length, IfOk, OnOk, OnErr};
 ghost use Rattle.area_list.specs.declared.TheConstants.{MOST_RUNS};
 ghost use Rattle.area_list.specs.Runs.{end_of, goes_on, IsCanonical, between, below, above, extended, joined, put_runs, cut_runs};
 
+use crate::MOST_RUNS;
 use crate::areas::TooMany;
-use crate::{MOST_RUNS, PAGES_END};
 use bitflags::Flags;
-use lego_base::{Area, NoMemory, Perms, Vpn};
+use lego_base::{Area, NoMemory, PAGES_END, Perms, Vpn};
 use std::alloc::Global;
 use std::marker::Model;
 use std::mem;

@@ -1,13 +1,13 @@
 //! What runs say of pages.
+
 ghost use Rattle.std.specs.Prelude.{◌≡◌};
 ghost use Rattle.lego_base.specs.Space.{perms_of};
 ghost use Rattle.area_list.specs.Runs.{IsCanonical, page_count};
 ghost use Rattle.area_list.specs.Gap.{lowest_gap};
 ghost use Rattle.area_list.specs.Cover.{covered};
 
-use crate::PAGES_END;
 use bitflags::Flags;
-use lego_base::{Area, Perms};
+use lego_base::{Area, PAGES_END, Perms};
 
 // The permissions of a page, where a run has it, by binary search.
 pub fn perms_at(runs: &[Area], page: u64) -> Option<Perms>

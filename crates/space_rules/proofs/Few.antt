@@ -1,4 +1,4 @@
--- So few loads make so few runs: a run begins only where a load begins or behind its end.
+-- Few loads make few runs: a run begins only where a load begins or ends.
 use Rattle.std.proofs.Common.{◌≡◌, ℕ, suc, ◌+◌, ◌-◌, ◌*◌, ◌<◌, ◌≤◌, ◌⊎◌, inl, inr, Bool, true, false, cond, ◌&&◌, ◌||◌, eqb, refl, sym, ◌∙◌, ap, subst, List, [], ◌∷◌, ◌++◌, length, Option, Some, None, arith}
 use Rattle.std.specs.Prelude.{nat_le, nat_lt}
 use Rattle.std.specs.List.{AllByRecursion}
@@ -7,7 +7,7 @@ use Rattle.std.proofs.lemmas.List.{length_push}
 use Rattle.lego_base.specs.declared.perms.Perms.{Perms}
 use Rattle.lego_base.specs.declared.records.Area.{Area}
 use Rattle.lego_base.specs.Space.{perms_of}
-use Rattle.area_list.specs.declared.TheConstants.{PAGES_END}
+use Rattle.lego_base.specs.declared.sizes.TheConstants.{PAGES_END}
 use Rattle.area_list.specs.Runs.{end_of, in_range, IsCanonical}
 use Rattle.area_list.proofs.Pages.{perms-hit, perms-miss}
 use Rattle.area_list.proofs.Canonical.{IsWithin, canonical-within, canonical-tail}
@@ -120,7 +120,7 @@ few_runs runs perms edges c agree steady bottom =
         let o : None ≡ Some area.perms = sym (perms-before area.first.0 PAGES_END (area ∷ runs) page (omega arith, c.0, canonical-tail area runs c) (omega arith)) ∙ agree page ∙ same in
         absurd (cc)
 
--- the pages at which loads begin, and those behind their ends
+-- the pages at which loads begin, and those after their ends
 abbrev edges_of : List Segment → List ℕ
 edges_of [] = []
 edges_of (s ∷ segments) = first_page s ∷ (first_page s + page_count s) ∷ edges_of segments
@@ -183,7 +183,7 @@ image_few segments all =
     let both = length_edges segments in
     omega arith
 
--- So few pages of a load, behind whole loads before it, are themselves those of a load.
+-- The first pages of a load, after whole loads before it, are themselves those of a load.
 pub areas_behind : (segments more : List Segment) (runs : List Area) → areas_of (segments ++ more) runs ≡ areas_of more (areas_of segments runs)
 areas_behind [] more runs = refl
 areas_behind (s ∷ segments) more runs = areas_behind segments more (with_pages (first_page s) (page_count s) s.perms runs)

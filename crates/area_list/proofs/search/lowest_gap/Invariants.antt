@@ -1,5 +1,5 @@
 use Rattle.std.proofs.Common.{◌≡◌, ◌≤◌, drop}
-use Rattle.area_list.specs.declared.TheConstants.{PAGES_END}
+use Rattle.lego_base.specs.declared.sizes.TheConstants.{PAGES_END}
 use Rattle.area_list.specs.Runs.{IsCanonical}
 use Rattle.area_list.specs.Gap.{gap_between}
 use Rattle.area_list.proofs.search.lowest_gap.Given as goal
