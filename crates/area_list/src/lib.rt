@@ -12,8 +12,6 @@ mod areas;
 mod laws;
 mod runs;
 mod search;
-#[cfg(test)]
-mod tests;
 
 pub use areas::{Areas, TooMany};
 pub use laws::{

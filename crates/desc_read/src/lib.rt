@@ -23,6 +23,3 @@ pub use fault::{DescFault, DescKind};
 pub use laws::strings_are_few;
 pub use plan::{FileFrom, Plan};
 pub use reading::read_plan;
-
-#[cfg(test)]
-mod tests;

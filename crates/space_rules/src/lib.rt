@@ -1,5 +1,5 @@
-//! The rules by which a process gets its address space: which pages it begins with, what stands on its stack
-//! at the entry, and where a mapping goes whose caller names no address.
+//! The rules by which a process gets its address space: which pages it begins with, what its stack holds at the
+//! entry, and where a mapping goes whose caller names no address.
 //!
 //! The pages are `image_areas_of` of `specs/Mapped`, the stack is `sp_of` and `stack_bytes` of `specs/Start`
 //! (the System V ABI's process initialization), the place is `place_of` of `specs/Place`. [`image_areas`],
@@ -7,12 +7,10 @@
 //! page and address by address, is promised in `laws`.
 #![tactic(auto)]
 
-mod image; // the pages that a process begins with
-mod laws; // what the definitions say of single pages and addresses
-mod placing; // where a mapping goes
-mod stack; // the stack at a program's entry
-#[cfg(test)]
-mod tests;
+mod image;
+mod laws;
+mod placing;
+mod stack;
 
 pub use image::image_areas;
 pub use laws::{
@@ -25,16 +23,16 @@ pub use stack::{StackFault, StackImage, stack_image};
 /// The lowest address of the stack, which doesn't grow.
 pub const STACK_START: u64 = 0x3F_FFEF_0000;
 
-/// The address behind the stack.
+/// The address after the stack.
 pub const STACK_END: u64 = 0x3F_FFFF_0000;
 
-/// The lowest address of a mapping whose caller names none. The loads of an image end at most here.
+/// The lowest address of a mapping whose caller names none. The loads of an image end here or below.
 pub const MAPPINGS_START: u64 = 0x20_0000_0000;
 
-/// How many arguments and strings of the environment a process starts with at most.
+/// The most arguments and strings of the environment together with which a process can start.
 pub const MOST_STRINGS: usize = 512;
 
-/// How many bytes these strings have at most, a closing 0 for each counted.
+/// The most bytes of these strings together, a closing 0 counted for each.
 pub const MOST_STRING_BYTES: usize = 65_536;
 
 /// The kind of the auxiliary vector's end, as in getauxval(3) and `elf.h`.

@@ -1,7 +1,7 @@
 use Rattle.std.proofs.Common.{◌≡◌, ◌≤◌, ℕ, List, [], ◌∷◌, length, lit≤, subst, sym, rules}
 use Rattle.std.specs.Prelude.{codes}
-use Rattle.report_text.proofs.Names.{short_names, names_differ, apart, b_not_ab, b_not_a, ab_not_a}
-use Rattle.report_text.proofs.tests.files_in_another_order_come_by_name.Goals as goal
+use Rattle.cases.proofs.Names.{short_names, names_differ, apart, b_not_ab, b_not_a, ab_not_a}
+use Rattle.cases.proofs.reports.files_in_another_order_come_by_name.Goals as goal
 
 pub archive-requires-clause-apart : goal.archive-requires-clause-apart
 archive-requires-clause-apart g c =

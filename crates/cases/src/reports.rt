@@ -1,7 +1,9 @@
+//! Reports and archives.
+
 ghost use Rattle.std.specs.Prelude.{◌≡◌, IfOk};
 
-use crate::{archive, report};
 use lego_base::{Bytes, Counts, EndWord, Ended, Exit, FileOut, NoMemory, Pid};
+use report_text::{archive, report};
 use std::alloc::Global;
 use std::test::Fail;
 

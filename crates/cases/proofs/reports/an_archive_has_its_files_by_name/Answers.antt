@@ -1,7 +1,7 @@
 use Rattle.std.proofs.Common.{◌≡◌, ◌≤◌, ℕ, List, [], ◌∷◌, length, lit≤, subst, sym, rules}
 use Rattle.std.specs.Prelude.{codes}
-use Rattle.report_text.proofs.Names.{short_names}
-use Rattle.report_text.proofs.tests.an_archive_has_its_files_by_name.Goals as goal
+use Rattle.cases.proofs.Names.{short_names}
+use Rattle.cases.proofs.reports.an_archive_has_its_files_by_name.Goals as goal
 
 pub archive-requires-2-clause-names : goal.archive-requires-2-clause-names
 archive-requires-2-clause-names g c =

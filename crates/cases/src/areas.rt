@@ -1,5 +1,6 @@
 //! Runs that merge, split and are refused.
-use crate::{Areas, TooMany};
+
+use area_list::{Areas, TooMany};
 use lego_base::{Area, Perms, Vpn};
 use std::test::Fail;
 
