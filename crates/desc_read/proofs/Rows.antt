@@ -7,7 +7,7 @@ use Rattle.desc_read.specs.declared.fault.DescKind.TheVariants.{Object, Unknown,
 use Rattle.desc_read.specs.Faults.{refused}
 use Rattle.desc_read.specs.Checks.{number, text, list_of, list_up_to}
 use Rattle.desc_read.specs.Objects.{field, in_range, object}
-use Rattle.desc_read.specs.Plans.{memory, machine_of, crash_of, crashes_of, schedule_of, files_of, program_of, plan_of}
+use Rattle.desc_read.specs.Plans.{memory, machine_of, crash_of, crashes_of, schedule_of, file_of, files_of, program_of, plan_of}
 
 abbrev natural : ℕ → json.Data
 natural n = json.number (json.unsigned n)
@@ -41,7 +41,29 @@ all_defaults = refl
 abbrev crash_at : ℕ → json.Data
 crash_at turn = json.object (json.member (codes "after") (natural 0) (json.member (codes "memory") (natural 0) (json.member (codes "turn") (natural turn) json.no_members)))
 
--- the second of two crashes isn't above the first
+-- a crash, a string of the environment and a file
+abbrev one_of_each : json.Members → json.Members
+one_of_each rest =
+    json.member (codes "crashes") (json.array (json.item (json.object (json.member (codes "after") (natural 1) (json.member (codes "memory") (natural 2) (json.member (codes "turn") (natural 3) json.no_members)))) json.no_items))
+    (json.member (codes "env") (json.array (json.item (words (codes "A=1")) json.no_items))
+    (json.member (codes "files") (json.array (json.item (json.object (json.member (codes "from") (words (codes "f")) (json.member (codes "path") (words (codes "p")) json.no_members))) json.no_items)) rest))
+
+lists_are_read : plan_of (with_fields one_of_each nothing) ≡ Ok (record {
+  shape = record { frames = 4096 ∷ 4096 ∷ 4096 ∷ []; log = 256; blocks = 16384; cache_blocks = 64; processors = 2; sets = 64; ways = 4; placement = memory 0 ∷ memory 1 ∷ memory 2 ∷ []; deliveries = 0 ∷ []; crashes = record { turn = 3; after = 1; memory = memory 2 } ∷ [] };
+  turns = 0 ∷ [];
+  quantum = 1000;
+  max_turns = 1000000;
+  init = codes "i";
+  args = codes "i" ∷ [];
+  env = codes "A=1" ∷ [];
+  files = record { path = codes "p"; from = codes "f" } ∷ [];
+  report = codes "r";
+  archive = codes "a";
+})
+unfolding plan_of machine_of schedule_of crashes_of crash_of program_of files_of file_of field in_range object number text list_of list_up_to ones digits
+lists_are_read = refl
+
+-- the second of two crashes isn't later than the first
 same_turn : plan_of (with_fields (json.member (codes "crashes") (json.array (json.item (crash_at 5) (json.item (crash_at 5) json.no_items)))) nothing) ≡ refused Range (codes "crashes[1].turn")
 unfolding plan_of machine_of schedule_of crashes_of crash_of field in_range object number list_up_to ones digits
 same_turn = refl

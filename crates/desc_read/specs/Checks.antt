@@ -1,5 +1,5 @@
 -- What a field's value may be: whole numbers within limits, texts of three rules, and lists of these. A value of another
--- kind is told apart from one that is out of range.
+-- kind is distinguished from one that is out of range.
 use Rattle.std.specs.Prelude.{ℕ, ◌+◌, Bool, true, false, not, ◌&&◌, ◌==◌, nat_le, if◌then◌else◌, List, [], ◌∷◌, map, length, Option, Some, None, Result, Ok, Err, codes, bytes_eq, sum_by}
 use Rattle.std.specs.List.{list_any}
 use Rattle.serde_json.specs.Data.{Num, unsigned, negative, float, Data, Items, no_items, item}
@@ -25,7 +25,7 @@ number_in low high (unsigned n) = if is_within low high n then Ok n else Err Out
 number_in low high (negative z) = Err OutOfRange
 number_in low high (float x) = Err WrongKind
 
--- A whole number from low to high. JSON's numbers that no integer of 64 bits is are of another kind.
+-- A whole number from low to high. A number of JSON that isn't an integer of 64 bits is of another kind.
 unfoldable pub number : ℕ → ℕ → Data → Result ℕ Flaw
 number low high d = of_kind (number_in low high) (as_number d)
 
@@ -34,12 +34,15 @@ number low high d = of_kind (number_in low high) (as_number d)
 abbrev pub has_byte : ℕ → List ℕ → Bool
 has_byte byte s = list_any (λ b. b == byte) s
 
--- An argument has no byte 0, a depot's name has 1 to 255 bytes besides, and a file's name has no `/` besides and is
--- neither `.` nor `..`.
+-- the name of an object in the depot: 1 to 255 bytes, none of them 0
+abbrev pub is_depot_name : List ℕ → Bool
+is_depot_name s = is_within 1 255 (length s) && not (has_byte 0 s)
+
+-- An argument has no byte 0. A file's name could be a depot's name, has no `/`, and is neither `.` nor `..`.
 abbrev pub allows : TextRule → List ℕ → Bool
 allows Argument s = not (has_byte 0 s)
-allows DepotName s = is_within 1 255 (length s) && not (has_byte 0 s)
-allows FileName s = is_within 1 255 (length s) && not (has_byte 0 s) && not (has_byte 47 s) && not (bytes_eq s (codes ".")) && not (bytes_eq s (codes ".."))
+allows DepotName s = is_depot_name s
+allows FileName s = is_depot_name s && not (has_byte 47 s) && not (bytes_eq s (codes ".")) && not (bytes_eq s (codes ".."))
 
 unfoldable pub text : TextRule → Data → Result (List ℕ) Flaw
 text rule d = of_kind (λ s. if allows rule s then Ok s else Err OutOfRange) (as_str d)
@@ -77,10 +80,10 @@ values (Err flaw ∷ rest) = values rest
 abbrev pub all_of : {A : Type 0} → Bool → List (Result A Flaw) → Result (List A) Flaw
 all_of fits items = if list_any is_wrong_kind items then Err WrongKind else (if fits && not (list_any is_out_of_range items) then Ok (values items) else Err OutOfRange)
 
--- a list of least to most values that this check lets pass
+-- a list of least to most values that pass this check
 unfoldable pub list_of : {A : Type 0} → ℕ → ℕ → (Data → Result A Flaw) → Data → Result (List A) Flaw
 list_of least most check d = of_kind (λ items. all_of (is_within least most (length (data_of items))) (map check (data_of items))) (as_array d)
 
--- a list of at most so many values of any kind
+-- a list of at most `most` values of any kind
 unfoldable pub list_up_to : ℕ → Data → Result (List Data) Flaw
 list_up_to most d = of_kind (λ items. if nat_le (length (data_of items)) most then Ok (data_of items) else Err OutOfRange) (as_array d)

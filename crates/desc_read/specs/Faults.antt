@@ -59,13 +59,13 @@ abbrev pub Fails : {A : Type 0} → DescFault → Result A Refusal → Type 0
 Fails (Bad kind place) want = want ≡ refused kind place
 Fails NoMemory want = Unit {0}
 
--- A call gives the value that the definition gives, or fails with its refusal. Want of memory alone may stand in the
--- place of either.
+-- A call gives the value that the definition gives, or fails with its refusal. Only running out of memory may replace
+-- either.
 abbrev pub Gives : {A : Type 0} → Result A DescFault → Result A Refusal → Type 0
 Gives (Ok a) want = want ≡ Ok a
 Gives (Err fault) want = Fails fault want
 
--- the same, where the call gives what f makes the value of
+-- the same, where the value is f of what the call gives
 abbrev pub GivesAs : {X A : Type 0} → (X → A) → Result X DescFault → Result A Refusal → Type 0
 GivesAs f (Ok x) want = want ≡ Ok (f x)
 GivesAs f (Err fault) want = Fails fault want

@@ -9,7 +9,7 @@ use Rattle.desc_read.specs.declared.place.EntryList.{EntryList}
 use Rattle.desc_read.specs.declared.place.Entry.{Entry}
 use Rattle.desc_read.specs.Faults.{Refusal, refused, kind_of, object_place, field_place}
 
--- what comes after a value that was given; a refusal stays the one that came first
+-- the step after a value; a refusal skips it
 infixl 10 ◌>>=◌
 abbrev pub ◌>>=◌ : {A B : Type 0} → Result A Refusal → (A → Result B Refusal) → Result B Refusal
 (Ok a) >>= next = next a
@@ -22,7 +22,7 @@ abbrev pub placed : {A : Type 0} → List ℕ → Result A Flaw → Result A Ref
 placed place (Ok a) = Ok a
 placed place (Err flaw) = refused (kind_of flaw) place
 
--- what stands for a field that isn't there: its default, where it has one
+-- the value of a field that is absent: its default, where it has one
 abbrev pub default : {A : Type 0} → List ℕ → Option A → Result A Refusal
 default place (Some a) = Ok a
 default place None = refused Absent place
@@ -35,7 +35,7 @@ field_of place check other None = default place other
 unfoldable pub field : {A : Type 0} → Option Entry → Data → List ℕ → (Data → Result A Flaw) → Option A → Result A Refusal
 field entry d name check other = field_of (field_place entry name) check other (get name d)
 
--- a condition besides on a field that was read
+-- a further condition on a field that was read
 unfoldable pub in_range : Option Entry → List ℕ → Bool → Result (Unit {0}) Refusal
 in_range entry name good = if good then Ok tt else refused Range (field_place entry name)
 

@@ -1,11 +1,12 @@
--- What a description asks for: its fields in their order, each with its kind, its range and what stands for it where it
--- is absent (`None`: it is required).
+-- What a description asks for: its fields in their order, each with its kind, its range and its default (`None`: it is
+-- required).
 use Rattle.std.specs.Prelude.{ℕ, zero, suc, ◌+◌, ◌-◌, Bool, not, if◌then◌else◌, List, [], ◌∷◌, ◌++◌, map, length, Option, Some, None, Result, Ok, codes, bytes_eq}
 use Rattle.std.specs.List.{list_any}
 use Rattle.std.specs.Str.{is_utf8}
 use Rattle.std.specs.Int.{is_power_of_two}
 use Rattle.lego_base.specs.declared.ids.MemId.{MemId}
 use Rattle.lego_base.specs.declared.shape.CrashAt.{CrashAt}
+use Rattle.lego_base.specs.declared.shape.Shape.{Shape}
 use Rattle.serde_json.specs.Data.{Data}
 use Rattle.serde_json.specs.Read.{read}
 use Rattle.desc_read.specs.declared.fault.DescKind.TheVariants.{Syntax}
@@ -14,9 +15,9 @@ use Rattle.desc_read.specs.declared.place.Entry.{Entry}
 use Rattle.desc_read.specs.declared.texts.TextRule.TheVariants.{Argument, DepotName, FileName}
 use Rattle.desc_read.specs.declared.plan.Plan.{Plan}
 use Rattle.desc_read.specs.declared.plan.FileFrom.{FileFrom}
-use Rattle.desc_read.specs.declared.machine.Machine.{Machine}
-use Rattle.desc_read.specs.declared.schedule.Schedule.{Schedule}
-use Rattle.desc_read.specs.declared.program.Program.{Program}
+use Rattle.desc_read.specs.declared.machine_fields.MachineFields.{MachineFields}
+use Rattle.desc_read.specs.declared.schedule_fields.ScheduleFields.{ScheduleFields}
+use Rattle.desc_read.specs.declared.program_fields.ProgramFields.{ProgramFields}
 use Rattle.desc_read.specs.Faults.{Refusal, refused}
 use Rattle.desc_read.specs.Checks.{number, text, list_of, list_up_to, fit}
 use Rattle.desc_read.specs.Objects.{◌>>=◌, field, in_range, object, entries, entry_after}
@@ -43,7 +44,7 @@ numbers_below zero = []
 numbers_below (suc n) = numbers_below n ++ n ∷ []
 
 -- the fields from version to placement, whose default is every memory by turns
-unfoldable pub machine_of : Option Entry → Data → Result Machine Refusal
+unfoldable pub machine_of : Option Entry → Data → Result MachineFields Refusal
 machine_of at d = do
   version ← field at d (codes "version") (number 1 1) None
   frames ← field at d (codes "frames") (list_of 2 8 (number 16 16384)) (Some (4096 ∷ 4096 ∷ 4096 ∷ []))
@@ -55,17 +56,17 @@ machine_of at d = do
   power ← in_range at (codes "sets") (is_power_of_two sets)
   ways ← field at d (codes "ways") (number 1 16) (Some 4)
   placement ← field at d (codes "placement") (list_of 1 1024 (number 0 (length frames - 1))) (Some (numbers_below (length frames)))
-  Ok (record { frames = frames; log = log; blocks = blocks; cache_blocks = cache_blocks; processors = processors; sets = sets; ways = ways; placement = map memory placement; last_memory = length frames - 1 })
+  Ok (record { frames = frames; log = log; blocks = blocks; cache_blocks = cache_blocks; processors = processors; sets = sets; ways = ways; placement = map memory placement })
 
 -- ---- turns, deliveries and crashes
 
--- the first turn after these crashes, which rise
+-- the first turn after these crashes, whose turns rise
 abbrev pub turn_after : List CrashAt → ℕ
 turn_after [] = 0
 turn_after (crash ∷ []) = crash.turn + 1
 turn_after (first ∷ second ∷ rest) = turn_after (second ∷ rest)
 
--- an entry of crashes, from this turn on
+-- an entry of crashes, at this turn or later
 unfoldable pub crash_of : Option Entry → Data → ℕ → ℕ → ℕ → Result CrashAt Refusal
 crash_of at d least_turn max_turns last_memory = do
   known ← object at crash_fields d
@@ -81,7 +82,7 @@ crashes_of at d max_turns last_memory = do
   entries (λ before e. crash_of (entry_after Crashes before) e (turn_after before) max_turns last_memory) [] listed
 
 -- the fields from turns to crashes
-unfoldable pub schedule_of : Option Entry → Data → ℕ → Result Schedule Refusal
+unfoldable pub schedule_of : Option Entry → Data → ℕ → Result ScheduleFields Refusal
 schedule_of at d last_memory = do
   turns ← field at d (codes "turns") (list_of 1 65536 (number 0 4294967295)) (Some (0 ∷ []))
   quantum ← field at d (codes "quantum") (number 1 100000) (Some 1000)
@@ -92,7 +93,7 @@ schedule_of at d last_memory = do
 
 -- ---- the program, its files, and where its results go
 
--- whether one of these entries has the path
+-- whether one of these files has the path
 abbrev pub has_path : List FileFrom → List ℕ → Bool
 has_path files path = list_any (λ file. bytes_eq file.path path) files
 
@@ -111,7 +112,7 @@ files_of at d = do
   entries (λ before e. file_of (entry_after Files before) e before) [] listed
 
 -- the fields from init to archive
-unfoldable pub program_of : Option Entry → Data → Result Program Refusal
+unfoldable pub program_of : Option Entry → Data → Result ProgramFields Refusal
 program_of at d = do
   init ← field at d (codes "init") (text DepotName) None
   args ← field at d (codes "args") (list_of 1 512 (text Argument)) (Some (init ∷ []))
@@ -126,9 +127,23 @@ program_of at d = do
 
 -- ---- the whole
 
-abbrev pub plan_from : Machine → Schedule → Program → Plan
+abbrev pub shape_from : MachineFields → List ℕ → List CrashAt → Shape
+shape_from machine deliveries crashes = record {
+  frames = machine.frames;
+  log = machine.log;
+  blocks = machine.blocks;
+  cache_blocks = machine.cache_blocks;
+  processors = machine.processors;
+  sets = machine.sets;
+  ways = machine.ways;
+  placement = machine.placement;
+  deliveries = deliveries;
+  crashes = crashes;
+}
+
+abbrev pub plan_from : MachineFields → ScheduleFields → ProgramFields → Plan
 plan_from m s p = record {
-  shape = record { frames = m.frames; log = m.log; blocks = m.blocks; cache_blocks = m.cache_blocks; processors = m.processors; sets = m.sets; ways = m.ways; placement = m.placement; deliveries = s.deliveries; crashes = s.crashes };
+  shape = shape_from m s.deliveries s.crashes;
   turns = s.turns;
   quantum = s.quantum;
   max_turns = s.max_turns;
@@ -140,12 +155,12 @@ plan_from m s p = record {
   archive = p.archive;
 }
 
--- the plan of a value that JSON text stands for, or its first fault
+-- the plan of the value of a JSON text, or its first fault
 unfoldable pub plan_of : Data → Result Plan Refusal
 plan_of d = do
   known ← object None plan_fields d
   machine ← machine_of None d
-  schedule ← schedule_of None d machine.last_memory
+  schedule ← schedule_of None d (length machine.frames - 1)
   program ← program_of None d
   Ok (plan_from machine schedule program)
 

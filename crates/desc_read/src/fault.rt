@@ -1,5 +1,7 @@
-ghost use Rattle.std.specs.Prelude.{◌≡◌};
-ghost use Rattle.desc_read.specs.Faults.{word_of};
+//! What is refused, and why.
+
+ghost use Rattle.std.specs.Prelude.{◌≡◌, ℕ, List, IfOk};
+ghost use Rattle.desc_read.specs.Faults.{word_of, IsFault};
 ghost use Rattle.desc_read.specs.declared.fault.DescFault.TheVariants.{NoMemory as OutOfMemory};
 
 use lego_base::{Bytes, NoMemory};
@@ -13,6 +15,18 @@ pub enum DescFault {
     Bad { kind: DescKind, place: Bytes },
     /// Memory ran out.
     NoMemory,
+}
+
+impl DescFault {
+    /// The fault of this kind at a place. Naming the place may have run out of memory.
+    pub(crate) fn at(kind: DescKind, place: Result<Bytes, NoMemory>) -> DescFault
+        ensures { (want : List ℕ) → IfOk place (λ found. found ≡ want) → IsFault kind want result }
+    {
+        match place {
+            Ok(place) => DescFault::Bad { kind, place },
+            Err(_) => DescFault::NoMemory,
+        }
+    }
 }
 
 impl From<NoMemory> for DescFault {
@@ -42,17 +56,17 @@ impl<T: Drop> From<AllocFailed<T>> for DescFault {
 /// What is wrong at a place of a description.
 #[derive(Clone, Copy, Debug, PartialEq, Eq)]
 pub enum DescKind {
-    /// The bytes are no JSON text.
+    /// The bytes are not a JSON text.
     Syntax,
-    /// The value is no object.
+    /// The value is not an object.
     Object,
     /// The object has a field that isn't known.
     Unknown,
-    /// A field that is needed isn't there.
+    /// A required field is absent.
     Absent,
-    /// The field's value is of another kind than its own.
+    /// The field's value is of a different kind.
     Kind,
-    /// The field's value is of its kind and out of its range.
+    /// The field's value is of its kind but out of its range.
     Range,
 }
 
@@ -83,7 +97,7 @@ impl fmt::Display for DescKind {
     }
 }
 
-/// What is wrong with a field's value, wherever the field stands.
+/// What is wrong with a field's value, wherever the field is.
 #[derive(Clone, Copy, Debug, PartialEq, Eq)]
 pub(crate) enum Flaw {
     WrongKind,
@@ -93,7 +107,7 @@ pub(crate) enum Flaw {
 impl Flaw {
     ghost use Rattle.desc_read.specs.Faults.{kind_of};
 
-    /// The kind of fault that it is.
+    /// The kind of the fault that it causes.
     pub(crate) fn kind(self) -> DescKind
         ensures { result ≡ kind_of self }
     {

@@ -1,3 +1,5 @@
+//! Where a fault is.
+
 ghost use Rattle.std.specs.Prelude.{◌≡◌, IfOk};
 ghost use Rattle.desc_read.specs.Faults.{list_name, object_place, field_place};
 
@@ -23,7 +25,7 @@ impl EntryList {
     }
 }
 
-/// An entry of such a list, from 0.
+/// An entry of such a list, counted from 0.
 #[derive(Clone, Copy, Debug, PartialEq, Eq)]
 pub(crate) struct Entry {
     pub(crate) list: EntryList,

@@ -1,14 +1,15 @@
-ghost use Rattle.std.specs.Prelude.{◌≡◌, IfOk, Ok, Err, MatchResult, MatchOption, not, ◌+◌, ◌<◌};
+//! Fields that are texts, and how much room strings need.
+
+ghost use Rattle.std.specs.Prelude.{◌≡◌, Ok, Err, MatchResult, MatchOption, ◌+◌, ◌<◌};
 ghost use Rattle.serde_json.specs.View.{view};
-ghost use Rattle.desc_read.specs.Checks.{allows, has_byte, is_within, text, list_of, bytes_of, fit};
+ghost use Rattle.desc_read.specs.Checks.{allows, is_depot_name, text, bytes_of, fit};
 
 use crate::fault::Flaw;
-use crate::numbers::Span;
-use lego_base::{Bytes, NoMemory, Seq};
+use lego_base::Bytes;
 use serde_json::Value;
-use std::alloc::Global;
 
-const STRING_BYTES: u64 = 65536; // of the arguments and the environment, a closing 0 counted for each
+// The most bytes of the arguments and the environment together, a closing 0 counted for each.
+const STRING_BYTES: u64 = 65536;
 
 /// What a text may be.
 #[derive(Clone, Copy, Debug, PartialEq, Eq)]
@@ -22,27 +23,27 @@ pub(crate) enum TextRule {
 }
 
 impl TextRule {
-    fn allows(self, text: &[u8]) -> bool
+    fn allows(self, text: &str) -> bool
         ensures { result ≡ allows self text.now }
     {
         match self {
-            TextRule::Argument => !text.contains(&0),
-            TextRule::DepotName => is_name(text),
+            TextRule::Argument => !text.as_bytes().contains(&0),
+            TextRule::DepotName => is_depot_name(text),
             TextRule::FileName => {
-                is_name(text)
-                    && !text.contains(&b'/')
-                    && text != b".".as_slice()
-                    && text != b"..".as_slice()
+                is_depot_name(text)
+                    && !text.as_bytes().contains(&b'/')
+                    && text != "."
+                    && text != ".."
             }
         }
     }
 }
 
-// Whether these are 1 to 255 bytes, none of them 0.
-fn is_name(text: &[u8]) -> bool
-    ensures { result ≡ allows TextRule.DepotName text.now }
+/// Whether an object in the depot can have this name: 1 to 255 bytes, none of them 0.
+pub fn is_depot_name(name: &str) -> bool
+    ensures { result ≡ is_depot_name name.now }
 {
-    !text.is_empty() && text.len() <= 255 && !text.contains(&0)
+    !name.is_empty() && name.len() <= 255 && !name.as_bytes().contains(&0)
 }
 
 // A text that the rule allows.
@@ -52,7 +53,7 @@ pub(crate) fn text_of(value: &Value, rule: TextRule) -> Result<&str, Flaw>
 {
     match value.as_str() {
         Some(s) => {
-            if rule.allows(s.as_bytes()) {
+            if rule.allows(s) {
                 Ok(s)
             } else {
                 Err(Flaw::OutOfRange)
@@ -62,36 +63,7 @@ pub(crate) fn text_of(value: &Value, rule: TextRule) -> Result<&str, Flaw>
     }
 }
 
-// A list of so many arguments.
-#[tactic(auto, unfolding(crate::specs::Checks::list_of))]
-pub(crate) fn texts_of(
-    alloc: Global,
-    value: &Value,
-    count: Span,
-) -> Result<Result<Seq<Bytes>, Flaw>, NoMemory>
-    ensures { IfOk result (λ found. found ≡ list_of count.0 count.1 (text TextRule.Argument) (view value.now)) }
-{
-    let Some(list) = value.as_array() else {
-        return Ok(Err(Flaw::WrongKind));
-    };
-    let items = list.as_slice();
-    let mut texts = Vec::with_capacity(alloc, items.len())?;
-    let mut fits = count.has(items.len() as u64);
-    for item in items {
-        match text_of(item, TextRule::Argument) {
-            Ok(text) => texts.push(Bytes::from_slice(alloc, text.as_bytes())?)?,
-            Err(Flaw::OutOfRange) => fits = false,
-            Err(Flaw::WrongKind) => return Ok(Err(Flaw::WrongKind)),
-        }
-    }
-    if fits {
-        Ok(Ok(Seq::from_vec(texts)))
-    } else {
-        Ok(Err(Flaw::OutOfRange))
-    }
-}
-
-// What is left of a room for bytes after these texts, a closing 0 counted for each, where they fit.
+// The room that is left for bytes after these texts, a closing 0 counted for each, where they fit.
 fn left_after(texts: &[Bytes], room: u64) -> Option<u64>
     ensures { MatchOption result (room < bytes_of texts.now) (λ left. left + bytes_of texts.now ≡ room) }
 {
@@ -106,7 +78,7 @@ fn left_after(texts: &[Bytes], room: u64) -> Option<u64>
     Some(left)
 }
 
-// Whether the arguments and the environment have room.
+// Whether the arguments and the environment fit together.
 pub(crate) fn fit(args: &[Bytes], env: &[Bytes]) -> bool
     ensures { result ≡ fit args.now env.now }
 {
