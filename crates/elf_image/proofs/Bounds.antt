@@ -9,7 +9,7 @@ use Rattle.std.proofs.lemmas.List.Recursion.{max_bounds, max_least}
 use Rattle.std.proofs.lemmas.List.Sums.{length-filter, count_by-le-length}
 use Rattle.elf_image.specs.declared.header.Header.{Header}
 use Rattle.elf_image.specs.declared.image.Segment.{Segment}
-use Rattle.elf_image.specs.File.{headers_from, headers, table_offset, header_count, entry_of, is_load, loads_of, end_of, is_executable}
+use Rattle.elf_image.specs.File.{headers_from, headers, table_offset, header_count, entry_address, is_load, loads_of, load_end, is_executable}
 use Rattle.elf_image.specs.Image.{is_overfull, has_other_size, is_misplaced, some_misplaced, share, executes, is_entry_outside, file_faults, load_faults, loads, first_fault, segment_of, highest_end, page_from, program_of, IsBoundedSegment, AreApart, MayExecute}
 use Rattle.elf_image.specs.Laws.{AcceptedIsBounded}
 use Rattle.elf_image.proofs.Lists.{no_header, each_fails}
@@ -32,21 +32,21 @@ loaded bytes = filter_passes is_load (headers bytes)
 pub highest_within : (loads : List Header) → some_misplaced loads ≡ false → highest_end loads ≤ 0x2000000000
 unfolding some_misplaced
 highest_within loads none =
-    max_least highest_end end_of refl (λ load rest. refl) loads no_header 0x2000000000 (λ i inside. ltb-false _ _ (or_parts (nat_lt (get_or loads i no_header).vaddr 4096) _ (each_fails is_misplaced loads none i no_header inside)).1)
+    max_least highest_end load_end refl (λ load rest. refl) loads no_header 0x2000000000 (λ i inside. ltb-false _ _ (or_parts (nat_lt (get_or loads i no_header).vaddr 4096) _ (each_fails is_misplaced loads none i no_header inside)).1)
 
-bounded_segments : (bytes : List ℕ) → IsSound (length bytes) (entry_of bytes) (loads bytes) → All IsBoundedSegment (map (segment_of bytes) (loads bytes))
+bounded_segments : (bytes : List ℕ) → IsSound (length bytes) (entry_address bytes) (loads bytes) → All IsBoundedSegment (map (segment_of bytes) (loads bytes))
 unfolding has_other_size some_misplaced
 bounded_segments bytes holds =
     All-map IsBoundedSegment (segment_of bytes) (loads bytes) (λ k d inside.
     let load = get_or (loads bytes) k d in
     let full = each_fails is_overfull (loads bytes) (or_parts _ (nat_lt 33554432 (sum_by (λ (load : Header). load.memsz) (loads bytes))) holds.sizes).0 k d inside in
-    let place = or_parts (nat_lt load.vaddr 4096) (nat_lt 0x2000000000 (end_of load)) (each_fails is_misplaced (loads bytes) holds.places k d inside) in
+    let place = or_parts (nat_lt load.vaddr 4096) (nat_lt 0x2000000000 (load_end load)) (each_fails is_misplaced (loads bytes) holds.places k d inside) in
     let fits : load.filesz ≤ load.memsz = ltb-false load.memsz load.filesz full in
     record {
       filled = simp length-take (omega arith);
       some = ltb-true 0 load.memsz (and_parts (load.kind == 1) (nat_lt 0 load.memsz) (loaded bytes k d inside)).1;
       start = ltb-false load.vaddr 4096 place.0;
-      ends = ltb-false 0x2000000000 (end_of load) place.1;
+      ends = ltb-false 0x2000000000 (load_end load) place.1;
       flags = omega arith;
     })
 
@@ -58,10 +58,10 @@ bounded_total bytes size entry holds =
     omega (arith, sums, total)
 
 -- two loads with bytes that don't share are apart
-apart_at : (load other : Header) → 0 < load.memsz → 0 < other.memsz → share load other ≡ false → (end_of load ≤ other.vaddr) ⊎ (end_of other ≤ load.vaddr)
+apart_at : (load other : Header) → 0 < load.memsz → 0 < other.memsz → share load other ≡ false → (load_end load ≤ other.vaddr) ⊎ (load_end other ≤ load.vaddr)
 apart_at load other some more apart =
-    let meet : min (end_of load) (end_of other) ≤ max load.vaddr other.vaddr = ltb-false _ _ apart in
-    elim (cases_lt other.vaddr (end_of load)) [ inl below ↦ inr (omega arith) | inr above ↦ inl above ]
+    let meet : min (load_end load) (load_end other) ≤ max load.vaddr other.vaddr = ltb-false _ _ apart in
+    elim (cases_lt other.vaddr (load_end load)) [ inl below ↦ inr (omega arith) | inr above ↦ inl above ]
 
 apart_segments : (bytes : List ℕ) (size entry : ℕ) → IsSound size entry (loads bytes) → AllPairs AreApart (map (segment_of bytes) (loads bytes))
 apart_segments bytes size entry holds = λ i j d before inside.
@@ -76,13 +76,13 @@ apart_segments bytes size entry holds = λ i j d before inside.
 
 enters : (bytes : List ℕ) (entry : ℕ) (load : Header) → executes entry load ≡ true → MayExecute entry (segment_of bytes load)
 enters bytes entry load passes =
-    let parts = and_parts (is_executable load) (nat_le load.vaddr entry && nat_lt entry (end_of load)) passes in
-    let range = and_parts (nat_le load.vaddr entry) (nat_lt entry (end_of load)) parts.1 in
+    let parts = and_parts (is_executable load) (nat_le load.vaddr entry && nat_lt entry (load_end load)) passes in
+    let range = and_parts (nat_le load.vaddr entry) (nat_lt entry (load_end load)) parts.1 in
     let flag : load.flags % 2 ≡ 1 = eqb-true _ _ parts.0 in
     record {
       allowed = omega arith;
       start = leb-true load.vaddr entry range.0;
-      ends = ltb-true entry (end_of load) range.1;
+      ends = ltb-true entry (load_end load) range.1;
     }
 
 entered_at : (bytes : List ℕ) (size entry : ℕ) → IsSound size entry (loads bytes) → (entry % 4 ≡ 0) × Any (MayExecute entry) (map (segment_of bytes) (loads bytes))
@@ -97,19 +97,19 @@ entered_at bytes size entry holds =
 pub bounded : AcceptedIsBounded
 unfolding first_fault program_of
 bounded bytes none =
-    let rows = none_first (file_faults bytes) (load_faults (length bytes) (entry_of bytes) (headers bytes) (loads bytes)) none in
+    let rows = none_first (file_faults bytes) (load_faults (length bytes) (entry_address bytes) (headers bytes) (loads bytes)) none in
     let file : IsWhole bytes = whole bytes rows.0 in
-    let holds : IsSound (length bytes) (entry_of bytes) (loads bytes) = sound (length bytes) (entry_of bytes) (headers bytes) (loads bytes) rows.1 in
+    let holds : IsSound (length bytes) (entry_address bytes) (loads bytes) = sound (length bytes) (entry_address bytes) (headers bytes) (loads bytes) rows.1 in
     let highest : highest_end (loads bytes) ≤ 0x2000000000 = highest_within (loads bytes) holds.places in
-    let entry = entered_at bytes (length bytes) (entry_of bytes) holds in
+    let entry = entered_at bytes (length bytes) (entry_address bytes) holds in
     record {
       few = rw (length-map (loads bytes) (segment_of bytes)) (few_loads bytes file.few);
       each = bounded_segments bytes holds;
-      total = bounded_total bytes (length bytes) (entry_of bytes) holds;
-      apart = apart_segments bytes (length bytes) (entry_of bytes) holds;
+      total = bounded_total bytes (length bytes) (entry_address bytes) holds;
+      apart = apart_segments bytes (length bytes) (entry_address bytes) holds;
       aligned = entry.0;
       entered = entry.1;
       page = omega arith;
-      behind = All-map (λ (segment : Segment). segment.vaddr + segment.memsz ≤ page_from (highest_end (loads bytes))) (segment_of bytes) (loads bytes) (λ k d inside. let below = max_bounds highest_end end_of refl (λ load rest. refl) (loads bytes) k d inside in omega (arith, below));
+      behind = All-map (λ (segment : Segment). segment.vaddr + segment.memsz ≤ page_from (highest_end (loads bytes))) (segment_of bytes) (loads bytes) (λ k d inside. let below = max_bounds highest_end load_end refl (λ load rest. refl) (loads bytes) k d inside in omega (arith, below));
       within = omega arith;
     }

@@ -5,7 +5,7 @@ use Rattle.std.proofs.lemmas.Bool.{cond-true, cond-false, lt-ltb, ltb-false, or_
 use Rattle.elf_image.specs.declared.fault.ImageFault.{ImageFault}
 use Rattle.elf_image.specs.declared.fault.ImageFault.TheVariants.{Short, Magic, Class, Kind, Machine, Abi, TableOutside, TooManyHeaders, Interp, SegmentOutside, SegmentSize, SegmentAddress, Overlap, NoSegment, EntryOutside, NoMemory}
 use Rattle.elf_image.specs.declared.header.Header.{Header}
-use Rattle.elf_image.specs.File.{table_offset, header_count, header_size, entry_of, headers}
+use Rattle.elf_image.specs.File.{table_offset, header_count, header_size, entry_address, headers}
 use Rattle.elf_image.specs.Image.{is_short, has_other_magic, has_other_class, has_other_kind, has_other_machine, has_other_abi, is_table_outside, has_many_headers, has_interpreter, some_outside, has_other_size, some_misplaced, some_share, has_no_load, is_entry_outside, file_faults, load_faults, first_of, loads, first_fault}
 use Rattle.elf_image.specs.Laws.{ShortIsRefused, NoFileIsNoMemory}
 
@@ -18,7 +18,7 @@ kept : (b : Bool) (fault other : ImageFault) (rest more : Option ImageFault) →
 kept true fault other rest more found on = found
 kept false fault other rest more found on = on found
 
--- behind rows without fault the later rows decide
+-- after rows without fault the later rows decide
 pub first_of-append_none : (rows more : List (Bool × ImageFault)) → first_of rows ≡ None → first_of (rows ++ more) ≡ first_of more
 first_of-append_none [] more none = refl
 first_of-append_none (row ∷ rows) more none =
@@ -57,7 +57,7 @@ of_file (row ∷ rows) fault own found =
 pub never_no_memory : NoFileIsNoMemory
 unfolding first_fault
 never_no_memory bytes found =
-    both_ways false refl (of_file (file_faults bytes ++ load_faults (length bytes) (entry_of bytes) (headers bytes) (loads bytes)) NoMemory refl found)
+    both_ways false refl (of_file (file_faults bytes ++ load_faults (length bytes) (entry_address bytes) (headers bytes) (loads bytes)) NoMemory refl found)
 
 pub short_first : ShortIsRefused
 unfolding first_fault

@@ -6,7 +6,7 @@ use Rattle.elf_image.specs.declared.fault.ImageFault.TheVariants.{Short, Magic, 
 use Rattle.elf_image.specs.Image.{first_fault, program_of}
 use Rattle.elf_image.proofs.OnLiterals.{elf_image_on_literals}
 
--- the file header of a program with this entry and so many program headers behind it
+-- the file header of a program with this entry and this number of program headers after it
 abbrev file_header : ℕ → ℕ → List ℕ
 file_header entry count =
     (127 ∷ codes "ELF") ++ bytes_of 12 0x010102 ++ bytes_of 2 2 ++ bytes_of 2 243 ++ bytes_of 4 1 ++ bytes_of 8 entry
@@ -153,7 +153,7 @@ entry_in_data : first_fault (with_load 1 6 0 0x10000 158 158) ≡ Some EntryOuts
 unfolding elf_image_on_literals
 entry_in_data = refl
 
--- A file with a second load, to be read and written, of 300 bytes in memory from an address on.
+-- A file with a second load, to be read and written, of 300 bytes in memory at an address.
 abbrev with_data : ℕ → List ℕ
 with_data vaddr = file_header 0x100b0 2 ++ header 1 5 0 0x10000 214 256 ++ header 1 6 212 vaddr 2 300 ++ text
 
@@ -176,7 +176,7 @@ two_loads_share_a_page : program_of (with_data 0x10800) ≡ record {
 unfolding elf_image_on_literals
 two_loads_share_a_page = refl
 
--- the break is behind the load that ends highest, wherever its header stands
+-- the break is after the load that ends highest, wherever its header is
 break_behind_the_first : (program_of (with_data 0x8000)).brk ≡ 0x11000
 unfolding elf_image_on_literals
 break_behind_the_first = refl

@@ -5,19 +5,19 @@ use Rattle.std.proofs.lemmas.Bool.{ltb-true, lt-ltb, or_parts, or_from}
 use Rattle.std.proofs.lemmas.List.{at_drop_more, at_drop_all, take_rest}
 use Rattle.std.proofs.lemmas.List.Folds.{list_any_none}
 use Rattle.elf_image.specs.declared.header.Header.{Header}
-use Rattle.elf_image.specs.File.{end_of}
+use Rattle.elf_image.specs.File.{load_end}
 use Rattle.elf_image.specs.Image.{share, some_share}
 use Rattle.elf_image.specs.Laws.{Holds, ShareIsCommonAddress, ApartIsEachPair}
 use Rattle.elf_image.proofs.Lists.{no_header, each_fails}
 
--- whether one of the loads from here on shares: this one with a later one, or one of those
+-- whether one of the remaining loads shares: the first with a later one, or one of those
 pub shares_here : (loads : List Header) (i : ℕ) (answer : Bool) → i < length loads → answer ≡ list_any (share (get_or loads i no_header)) (take (length loads - (i + 1)) (drop (i + 1) loads)) → some_share (drop i loads) ≡ (answer || some_share (drop (i + 1) loads))
 unfolding some_share
 shares_here loads i answer inside asked =
     at_drop_more some_share loads i no_header inside
     ∙ ap (λ (b : Bool). b || some_share (drop (i + 1) loads)) (sym (asked ∙ ap (list_any (share (get_or loads i no_header))) (take_rest loads (i + 1))))
 
--- behind the last load nothing shares
+-- after the last load nothing shares
 pub shares_nowhere : (loads : List Header) (i : ℕ) → length loads ≤ i → some_share (drop i loads) ≡ false
 unfolding some_share
 shares_nowhere loads i past = at_drop_all some_share loads i past
@@ -26,7 +26,7 @@ shares_nowhere loads i past = at_drop_all some_share loads i past
 pub common_address : ShareIsCommonAddress
 common_address load other = (
   λ shared.
-      let below : max load.vaddr other.vaddr < min (end_of load) (end_of other) = ltb-true _ _ shared in
+      let below : max load.vaddr other.vaddr < min (load_end load) (load_end other) = ltb-true _ _ shared in
       let in_load : Holds load (max load.vaddr other.vaddr) = (omega arith, omega arith) in
       let in_other : Holds other (max load.vaddr other.vaddr) = (omega arith, omega arith) in
       (max load.vaddr other.vaddr, in_load, in_other),

@@ -1,4 +1,4 @@
--- Which files are accepted, the first reason for which another is refused, and the program that an accepted file
+-- Which files are accepted, the first reason why any other is refused, and the program that an accepted file
 -- holds. The conditions speak of the whole file and of all its loads at once. Sums are whole numbers: they don't
 -- wrap.
 use Rattle.std.specs.Prelude.{◌≡◌, ◌==◌, ℕ, ◌+◌, ◌*◌, ◌/◌, ◌%◌, ◌<◌, ◌≤◌, ◌⊎◌, max, min, nat_le, nat_lt, bit_and, Bool, false, not, ◌&&◌, ◌||◌, if◌then◌else◌, List, [], ◌∷◌, ◌++◌, length, take, drop, map, sum_by, slice_index, Option, Some, None, All, Any, AllPairs, codes, nat_eq}
@@ -6,9 +6,10 @@ use Rattle.std.specs.List.{list_any, starts_with}
 use Rattle.lego_base.specs.declared.perms.Perms.{Perms}
 use Rattle.elf_image.specs.declared.fault.ImageFault.{ImageFault}
 use Rattle.elf_image.specs.declared.fault.ImageFault.TheVariants.{Short, Magic, Class, Kind, Machine, Abi, TableOutside, TooManyHeaders, Interp, SegmentOutside, SegmentSize, SegmentAddress, Overlap, NoSegment, EntryOutside, NoMemory}
+use Rattle.elf_image.specs.declared.TheConstants.{MOST_HEADERS, MOST_BYTES, LOADS_START, LOADS_END}
 use Rattle.elf_image.specs.declared.header.Header.{Header}
 use Rattle.elf_image.specs.declared.image.Segment.{Segment}
-use Rattle.elf_image.specs.File.{field, entry_of, table_offset, header_size, header_count, headers, loads_of, end_of, is_executable}
+use Rattle.elf_image.specs.File.{field, e_type, e_machine, e_flags, phdr_bytes, entry_address, table_offset, header_size, header_count, headers, loads_of, load_end, is_executable}
 
 -- What a program image is.
 pub record Program : Type 0 where
@@ -35,23 +36,23 @@ has_other_class bytes = not (slice_index bytes 4 == 2 && slice_index bytes 5 == 
 
 -- e_type isn't ET_EXEC (2)
 unfoldable pub has_other_kind : List ℕ → Bool
-has_other_kind bytes = not (field bytes 16 2 == 2)
+has_other_kind bytes = not (field bytes e_type 2 == 2)
 
 -- e_machine isn't EM_RISCV (243)
 unfoldable pub has_other_machine : List ℕ → Bool
-has_other_machine bytes = not (field bytes 18 2 == 243)
+has_other_machine bytes = not (field bytes e_machine 2 == 243)
 
 -- e_flags has a bit of 15 set: compressed instructions (1), a float ABI (6), RVE (8)
 unfoldable pub has_other_abi : List ℕ → Bool
-has_other_abi bytes = not (bit_and (field bytes 48 4) 15 == 0)
+has_other_abi bytes = not (bit_and (field bytes e_flags 4) 15 == 0)
 
--- there are program headers and they haven't 56 bytes, or their table ends behind the file
+-- there are program headers and they aren't of 56 bytes, or their table ends past the end of the file
 unfoldable pub is_table_outside : List ℕ → Bool
-is_table_outside bytes = nat_lt 0 (header_count bytes) && not (header_size bytes == 56) || nat_lt (length bytes) (table_offset bytes + 56 * header_count bytes)
+is_table_outside bytes = nat_lt 0 (header_count bytes) && not (header_size bytes == phdr_bytes) || nat_lt (length bytes) (table_offset bytes + phdr_bytes * header_count bytes)
 
--- there are more than 64 program headers
+-- there are too many program headers
 unfoldable pub has_many_headers : List ℕ → Bool
-has_many_headers bytes = nat_lt 64 (header_count bytes)
+has_many_headers bytes = nat_lt MOST_HEADERS (header_count bytes)
 
 -- Conditions on the program headers and the loads among them.
 
@@ -59,7 +60,7 @@ has_many_headers bytes = nat_lt 64 (header_count bytes)
 unfoldable pub has_interpreter : List Header → Bool
 has_interpreter table = list_any (λ header. header.kind == 3) table
 
--- the bytes of a load end behind a file of this size
+-- the bytes of a load end past the end of a file of this size
 abbrev pub is_outside : ℕ → Header → Bool
 is_outside size load = nat_lt size (load.offset + load.filesz)
 
@@ -70,20 +71,20 @@ some_outside size loads = list_any (is_outside size) loads
 abbrev pub is_overfull : Header → Bool
 is_overfull load = nat_lt load.memsz load.filesz
 
--- there is such a load, or all loads together have more than 33554432 bytes in memory
+-- there is such a load, or all loads together have too many bytes in memory
 unfoldable pub has_other_size : List Header → Bool
-has_other_size loads = list_any is_overfull loads || nat_lt 33554432 (sum_by (λ load. load.memsz) loads)
+has_other_size loads = list_any is_overfull loads || nat_lt MOST_BYTES (sum_by (λ load. load.memsz) loads)
 
--- a load begins below 4096 or ends above 0x2000000000
+-- a load begins below or ends above the addresses for loads
 abbrev pub is_misplaced : Header → Bool
-is_misplaced load = nat_lt load.vaddr 4096 || nat_lt 0x2000000000 (end_of load)
+is_misplaced load = nat_lt load.vaddr LOADS_START || nat_lt LOADS_END (load_end load)
 
 unfoldable pub some_misplaced : List Header → Bool
 some_misplaced loads = list_any is_misplaced loads
 
 -- the address ranges of two loads share an address: the later start lies before the earlier end
 abbrev pub share : Header → Header → Bool
-share load other = nat_lt (max load.vaddr other.vaddr) (min (end_of load) (end_of other))
+share load other = nat_lt (max load.vaddr other.vaddr) (min (load_end load) (load_end other))
 
 unfoldable pub some_share : List Header → Bool
 some_share [] = false
@@ -95,7 +96,7 @@ has_no_load loads = length loads == 0
 
 -- a load may be executed and has this address
 abbrev pub executes : ℕ → Header → Bool
-executes address load = is_executable load && (nat_le load.vaddr address && nat_lt address (end_of load))
+executes address load = is_executable load && (nat_le load.vaddr address && nat_lt address (load_end load))
 
 -- the entry isn't a multiple of 4, or no load that may be executed has it
 unfoldable pub is_entry_outside : ℕ → List Header → Bool
@@ -138,7 +139,7 @@ loads bytes = loads_of (headers bytes)
 
 -- the first fault of a file, where it has one
 unfoldable pub first_fault : List ℕ → Option ImageFault
-first_fault bytes = first_of (file_faults bytes ++ load_faults (length bytes) (entry_of bytes) (headers bytes) (loads bytes))
+first_fault bytes = first_of (file_faults bytes ++ load_faults (length bytes) (entry_address bytes) (headers bytes) (loads bytes))
 
 -- What a file holds.
 
@@ -158,7 +159,7 @@ segment_of bytes load = record {
 -- the highest of the loads' ends
 abbrev pub highest_end : List Header → ℕ
 highest_end [] = 0
-highest_end (load ∷ loads) = max (end_of load) (highest_end loads)
+highest_end (load ∷ loads) = max (load_end load) (highest_end loads)
 
 -- the lowest page address that isn't below an address
 abbrev pub page_from : ℕ → ℕ
@@ -167,7 +168,7 @@ page_from address = (address + 4095) / 4096 * 4096
 -- the program of a file without fault
 unfoldable pub program_of : List ℕ → Program
 program_of bytes = record {
-  entry = entry_of bytes;
+  entry = entry_address bytes;
   segments = map (segment_of bytes) (loads bytes);
   brk = page_from (highest_end (loads bytes));
 }
@@ -196,8 +197,8 @@ name_of NoMemory = codes "NoMemory"
 pub record IsBoundedSegment (segment : Segment) : Type 0 where
   pub filled : length segment.bytes ≤ segment.memsz
   pub some : 0 < segment.memsz
-  pub start : 4096 ≤ segment.vaddr
-  pub ends : segment.vaddr + segment.memsz ≤ 0x2000000000
+  pub start : LOADS_START ≤ segment.vaddr
+  pub ends : segment.vaddr + segment.memsz ≤ LOADS_END
   -- READ, WRITE and EXEC alone
   pub flags : segment.perms.0 < 8
 
@@ -212,13 +213,13 @@ pub record MayExecute (address : ℕ) (segment : Segment) : Type 0 where
   pub ends : address < segment.vaddr + segment.memsz
 
 pub record IsBounded (program : Program) : Type 0 where
-  pub few : length program.segments ≤ 64
+  pub few : length program.segments ≤ MOST_HEADERS
   pub each : All IsBoundedSegment program.segments
-  pub total : sum_by (λ segment. segment.memsz) program.segments ≤ 33554432
+  pub total : sum_by (λ segment. segment.memsz) program.segments ≤ MOST_BYTES
   pub apart : AllPairs AreApart program.segments
   pub aligned : program.entry % 4 ≡ 0
   pub entered : Any (MayExecute program.entry) program.segments
-  -- the break is the address of a page, behind all segments
+  -- the break is the address of a page, after all segments
   pub page : program.brk % 4096 ≡ 0
   pub behind : All (λ segment. segment.vaddr + segment.memsz ≤ program.brk) program.segments
-  pub within : program.brk ≤ 0x2000000000
+  pub within : program.brk ≤ LOADS_END

@@ -2,14 +2,14 @@
 use Rattle.std.specs.Prelude.{◌≡◌, ℕ, ◌%◌, ◌<◌, ◌≤◌, ◌↔◌, true, false, List, length, Some, None, AllPairs}
 use Rattle.elf_image.specs.declared.fault.ImageFault.TheVariants.{Short, NoMemory}
 use Rattle.elf_image.specs.declared.header.Header.{Header}
-use Rattle.elf_image.specs.File.{end_of}
+use Rattle.elf_image.specs.File.{load_end}
 use Rattle.elf_image.specs.Image.{first_fault, program_of, share, some_share, page_from, IsBounded}
 
 -- A file of fewer than 64 bytes is Short.
 abbrev pub ShortIsRefused : Type 0
 ShortIsRefused = (bytes : List ℕ) → length bytes < 64 → first_fault bytes ≡ Some Short
 
--- Want of memory is no fault of a file.
+-- Running out of memory is not a fault of a file.
 abbrev pub NoFileIsNoMemory : Type 0
 NoFileIsNoMemory = (bytes : List ℕ) → first_fault bytes ≡ Some NoMemory → ⊥
 
@@ -19,7 +19,7 @@ AcceptedIsBounded = (bytes : List ℕ) → first_fault bytes ≡ None → IsBoun
 
 -- an address lies in the range of a load
 abbrev pub Holds : Header → ℕ → Type 0
-Holds load address = (load.vaddr ≤ address) × (address < end_of load)
+Holds load address = (load.vaddr ≤ address) × (address < load_end load)
 
 -- Two loads share exactly where there is an address that both hold.
 abbrev pub ShareIsCommonAddress : Type 0

@@ -1,3 +1,5 @@
+//! The conditions for which a file is refused, one function each.
+
 ghost use Rattle.std.specs.Prelude.{◌≡◌, ◌+◌, ◌≤◌, nat_lt, length, sum_by};
 ghost use Rattle.std.specs.List.{list_any};
 ghost use Rattle.elf_image.specs.declared.header.Header.{Header};
@@ -120,7 +122,7 @@ fn is_table_outside(bytes: &[u8]) -> bool
     let size = read_u16(bytes, E_PHENTSIZE);
     let count = read_u16(bytes, E_PHNUM);
     count > 0 && size as usize != HEADER_BYTES
-        || ends_behind(
+        || ends_past(
             offset,
             count as u64 * HEADER_BYTES as u64,
             bytes.len() as u64,
@@ -135,8 +137,8 @@ fn has_many_headers(bytes: &[u8]) -> bool
     read_u16(bytes, E_PHNUM) > MOST_HEADERS
 }
 
-// Whether so many bytes from a start end behind a limit. The sum may be above all numbers of 64 bits.
-fn ends_behind(start: u64, size: u64, limit: u64) -> bool
+// Whether `start + size > limit`, also where the sum overflows.
+fn ends_past(start: u64, size: u64, limit: u64) -> bool
     ensures { result ≡ nat_lt limit (start + size) }
 {
     start > limit || size > limit - start
@@ -152,7 +154,7 @@ fn has_interpreter(table: &[Header]) -> bool
 fn is_outside(size: u64, load: &Header) -> bool
     ensures { result ≡ is_outside size load.now }
 {
-    ends_behind(load.offset, load.filesz, size)
+    ends_past(load.offset, load.filesz, size)
 }
 
 #[tactic(auto, unfolding(crate::specs::Image::some_outside))]
@@ -175,7 +177,7 @@ fn has_other_size(loads: &[Header]) -> bool
     some_overfull(loads) || is_total_above(MOST_BYTES, loads)
 }
 
-// Whether the loads have more bytes in memory than this. Their sum may be above all numbers of 64 bits.
+// Whether the loads have more than `most` bytes in memory, also where their sum overflows.
 fn is_total_above(most: u64, loads: &[Header]) -> bool
     ensures { result ≡ nat_lt most (sum_by (λ (load : Header). load.memsz) loads.now) }
 {
@@ -192,7 +194,7 @@ fn is_total_above(most: u64, loads: &[Header]) -> bool
 fn is_misplaced(load: &Header) -> bool
     ensures { result ≡ is_misplaced load.now }
 {
-    load.vaddr < LOADS_START || ends_behind(load.vaddr, load.memsz, LOADS_END)
+    load.vaddr < LOADS_START || ends_past(load.vaddr, load.memsz, LOADS_END)
 }
 
 #[tactic(auto, unfolding(crate::specs::Image::some_misplaced))]
@@ -202,12 +204,12 @@ fn some_misplaced(loads: &[Header]) -> bool
     loads.iter().any(|load| is_misplaced(load))
 }
 
-// Whether two loads have an address in common: then both have the later start.
+// Whether two loads have an address in common: then both contain the later start.
 fn share(load: &Header, other: &Header) -> bool
     ensures { result ≡ share load.now other.now }
 {
     let start = load.vaddr.max(other.vaddr);
-    ends_behind(load.vaddr, load.memsz, start) && ends_behind(other.vaddr, other.memsz, start)
+    ends_past(load.vaddr, load.memsz, start) && ends_past(other.vaddr, other.memsz, start)
 }
 
 fn shares_with(load: &Header, others: &[Header]) -> bool
@@ -230,7 +232,7 @@ fn some_share(loads: &[Header]) -> bool
 fn executes(entry: u64, load: &Header) -> bool
     ensures { result ≡ executes entry load.now }
 {
-    load.flags & PF_X == PF_X && load.vaddr <= entry && ends_behind(load.vaddr, load.memsz, entry)
+    load.flags & PF_X == PF_X && load.vaddr <= entry && ends_past(load.vaddr, load.memsz, entry)
 }
 
 fn some_executes(entry: u64, loads: &[Header]) -> bool

@@ -1,10 +1,11 @@
+//! Why a file is refused.
+
 ghost use Rattle.std.specs.Prelude.{◌≡◌};
 ghost use Rattle.elf_image.specs.Image.{name_of};
 
 use lego_base::NoMemory;
-use std::alloc::{AllocError, AllocFailed};
 
-/// Why a file isn't accepted, in the order in which the reasons are looked for.
+/// Why a file is refused, in the order in which the conditions are tried.
 #[derive(Clone, Copy, Debug, PartialEq, Eq)]
 pub enum ImageFault {
     /// Fewer bytes than a file header.
@@ -19,13 +20,13 @@ pub enum ImageFault {
     Machine,
     /// For compressed instructions, a float ABI, or RVE.
     Abi,
-    /// The table of program headers ends behind the file, or its entries haven't 56 bytes.
+    /// The table of program headers ends past the end of the file, or its entries aren't of 56 bytes.
     TableOutside,
     /// More than 64 program headers.
     TooManyHeaders,
     /// A program that needs an interpreter.
     Interp,
-    /// A load's bytes end behind the file.
+    /// A load's bytes end past the end of the file.
     SegmentOutside,
     /// A load is smaller in memory than in the file, or all loads are larger than 32 MiB together.
     SegmentSize,
@@ -73,26 +74,6 @@ impl From<NoMemory> for ImageFault {
     ghost from_gives = { λ _ fault. fault ≡ NoMemoryFault };
 
     fn from(_error: NoMemory) -> ImageFault {
-        ImageFault::NoMemory
-    }
-}
-
-impl From<AllocError> for ImageFault {
-    ghost use Rattle.elf_image.specs.declared.fault.ImageFault.TheVariants.{NoMemory as NoMemoryFault};
-
-    ghost from_gives = { λ _ fault. fault ≡ NoMemoryFault };
-
-    fn from(_error: AllocError) -> ImageFault {
-        ImageFault::NoMemory
-    }
-}
-
-impl<T: Drop> From<AllocFailed<T>> for ImageFault {
-    ghost use Rattle.elf_image.specs.declared.fault.ImageFault.TheVariants.{NoMemory as NoMemoryFault};
-
-    ghost from_gives = { λ _ fault. fault ≡ NoMemoryFault };
-
-    fn from(_error: AllocFailed<T>) -> ImageFault {
         ImageFault::NoMemory
     }
 }

@@ -1,11 +1,14 @@
+//! Numbers and program headers in a file.
+
 ghost use Rattle.std.specs.Prelude.{◌≡◌, ◌+◌, ◌*◌, ◌≤◌, length, IfOk};
 ghost use Rattle.elf_image.specs.File.{field, header_at, headers, loads_of, table_offset, header_count};
 
 use crate::HEADER_BYTES;
 use byteorder::{ByteOrder, LittleEndian};
-use std::alloc::{AllocError, Global};
+use lego_base::NoMemory;
+use std::alloc::Global;
 
-// Where the fields of the file header stand, by their names in elf(5).
+// The offsets of the fields of the file header, by their names in elf(5).
 pub const E_TYPE: usize = 16;
 
 pub const E_MACHINE: usize = 18;
@@ -31,7 +34,7 @@ pub const PT_INTERP: u32 = 3;
 
 pub const PF_X: u32 = 1;
 
-// The bits of e_flags for what the machine hasn't: compressed instructions (1), float ABIs (6), RVE (8).
+// The bits of e_flags for what the machine lacks: compressed instructions (1), float ABIs (6), RVE (8).
 pub const OTHER_ABIS: u32 = 15;
 
 /// A program header. The fields are those of elf(5) without `p_`; `kind` is `p_type`.
@@ -41,11 +44,11 @@ pub struct Header {
     pub flags: u32, // a set of 1 (execute), 2 (write) and 4 (read)
     pub offset: u64, // where its bytes begin in the file
     pub vaddr: u64, // the address of its first byte
-    pub filesz: u64, // how many bytes it has in the file
-    pub memsz: u64, // how many bytes it has in memory
+    pub filesz: u64, // its bytes in the file
+    pub memsz: u64, // its bytes in memory
 }
 
-// The number of two bytes from an offset on, the lowest first.
+// The number of two bytes that start at an offset, the lowest first.
 #[tactic(auto, unfolding(crate::specs::File::field))]
 pub fn read_u16(bytes: &[u8], offset: usize) -> u16
     requires { offset + 2 ≤ length bytes.now }
@@ -55,7 +58,7 @@ pub fn read_u16(bytes: &[u8], offset: usize) -> u16
     LittleEndian::read_u16(rest)
 }
 
-// The number of four bytes from an offset on, the lowest first.
+// The number of four bytes that start at an offset, the lowest first.
 #[tactic(auto, unfolding(crate::specs::File::field))]
 pub fn read_u32(bytes: &[u8], offset: usize) -> u32
     requires { offset + 4 ≤ length bytes.now }
@@ -65,7 +68,7 @@ pub fn read_u32(bytes: &[u8], offset: usize) -> u32
     LittleEndian::read_u32(rest)
 }
 
-// The number of eight bytes from an offset on, the lowest first.
+// The number of eight bytes that start at an offset, the lowest first.
 #[tactic(auto, unfolding(crate::specs::File::field))]
 pub fn read_u64(bytes: &[u8], offset: usize) -> u64
     requires { offset + 8 ≤ length bytes.now }
@@ -92,7 +95,7 @@ fn read_header(bytes: &[u8], at: usize) -> Header
 }
 
 // The table of program headers, which lies within the file.
-pub fn read_headers(alloc: Global, bytes: &[u8]) -> Result<Vec<Header>, AllocError>
+pub fn read_headers(alloc: Global, bytes: &[u8]) -> Result<Vec<Header>, NoMemory>
     requires header { 64 ≤ length bytes.now }
     requires table { table_offset bytes.now + 56 * header_count bytes.now ≤ length bytes.now }
     ensures { IfOk result (λ table. table.items ≡ headers bytes.now) }
@@ -109,12 +112,13 @@ pub fn read_headers(alloc: Global, bytes: &[u8]) -> Result<Vec<Header>, AllocErr
 
 // The loads among the headers, in their order.
 #[tactic(auto, unfolding(crate::specs::File::loads_of))]
-pub fn select_loads(alloc: Global, table: &[Header]) -> Result<Vec<Header>, AllocError>
+pub fn select_loads(alloc: Global, table: &[Header]) -> Result<Vec<Header>, NoMemory>
     ensures { IfOk result (λ loads. loads.items ≡ loads_of table.now) }
 {
-    table
+    let loads = table
         .iter()
         .copied()
         .filter(|header| header.kind == PT_LOAD && header.memsz > 0)
-        .collect(alloc)
+        .collect(alloc)?;
+    Ok(loads)
 }

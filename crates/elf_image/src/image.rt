@@ -1,3 +1,5 @@
+//! What an accepted file holds.
+
 ghost use Rattle.std.specs.Prelude.{◌≡◌};
 ghost use Rattle.elf_image.specs.Image.{IsBounded};
 
@@ -8,7 +10,7 @@ use std::marker::Model;
 #[derive(Debug, Drop)]
 pub struct Segment {
     pub vaddr: u64, // the address of the first byte
-    pub memsz: u64, // how many bytes it has in memory
+    pub memsz: u64, // its bytes in memory
     pub perms: Perms, // what may be done with each page that it meets
     pub bytes: Bytes, // its first bytes; all others are 0
 }

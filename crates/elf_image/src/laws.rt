@@ -1,3 +1,5 @@
+//! What the conditions mean.
+
 ghost use Rattle.elf_image.specs.Laws.{ShortIsRefused, NoFileIsNoMemory, AcceptedIsBounded, ShareIsCommonAddress, ApartIsEachPair, PageIsLowest};
 
 /// A file of fewer bytes than a file header is `Short`.

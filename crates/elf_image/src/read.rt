@@ -1,3 +1,5 @@
+//! The whole file.
+
 ghost use Rattle.std.specs.Prelude.{◌≡◌, ◌⊎◌, ◌+◌, ◌≤◌, false, length, map, Some, None, IfOk, IfErr};
 ghost use Rattle.elf_image.specs.declared.fault.ImageFault.TheVariants.{NoMemory as NoMemoryFault};
 ghost use Rattle.elf_image.specs.Image.{first_fault, program_of, perms_of_flags, segment_of, some_outside, highest_end, page_from};
@@ -9,8 +11,8 @@ use bitflags::Flags;
 use lego_base::{Bytes, NoMemory, PAGE_BYTES, Perms};
 use std::alloc::Global;
 
-/// The program that an ELF64 file holds, or the first fault of the file. Want of memory may come in place
-/// of either.
+/// The program that an ELF64 file holds, or the first fault of the file. Running out of memory may replace
+/// either.
 pub fn read_image(alloc: Global, bytes: &[u8]) -> Result<Image, ImageFault>
     ensures fault { IfErr result (λ fault. (fault ≡ NoMemoryFault) ⊎ (first_fault bytes.now ≡ Some fault)) }
     ensures image { IfOk result (λ image. (first_fault bytes.now ≡ None) × (image ≡ program_of bytes.now)) }
