@@ -17,7 +17,7 @@ pub each : (segments : List Segment) → All IsBoundedSegment segments → AllBy
 each [] all = tt
 each (s ∷ segments) all = (All-head IsBoundedSegment s segments all, each segments (All-tail IsBoundedSegment s segments all))
 
--- the page behind those that are mapped
+-- the page after those that are mapped
 pub pages_more : (first pages : ℕ) (perms : Perms) (runs : List Area) → with_pages first (suc pages) perms runs ≡ put_runs (first + pages) 1 (union (perms_of (with_pages first pages perms runs) (first + pages)) perms) (with_pages first pages perms runs)
 pages_more first zero perms runs = let e : first ≡ first + 0 = omega arith in ap (λ (p : ℕ). put_runs p 1 (union (perms_of runs p) perms) runs) e
 pages_more first (suc pages) perms runs =

@@ -12,11 +12,11 @@ use Rattle.elf_image.specs.declared.image.Segment.{Segment}
 use Rattle.elf_image.specs.Image.{IsBoundedSegment}
 use Rattle.space_rules.specs.Mapped.{union, with_pages, first_page, page_count, areas_of, meets, perms_of_loads, read_write, stack_page, stack_pages, image_areas_of}
 
--- whether a page is one of so many from a page on
+-- whether a page is one of `pages` pages that start at another
 abbrev pub within : ℕ → ℕ → ℕ → Bool
 within first pages page = nat_le first page && nat_lt page (first + pages)
 
--- what runs say of a page once so many pages have more permissions
+-- what runs say of a page once a range of pages has more permissions
 abbrev Adds : ℕ → ℕ → Perms → List Area → List Area → Type 0
 Adds first pages perms runs new = (page : ℕ) → perms_of new page ≡ cond (within first pages page) (Some (union (perms_of runs page) perms)) (perms_of runs page)
 
@@ -36,7 +36,7 @@ chosen b x y e = ap (λ (b : Bool). cond b x y) e
 passed : (b : Bool) (x y : Option Perms) → b ≡ false → cond b x y ≡ y
 passed b x y e = ap (λ (b : Bool). cond b x y) e
 
--- one page, then the pages behind it
+-- one page, then the pages after it
 step : (first pages page : ℕ) (perms : Perms) (old mid new : Option Perms) → mid ≡ cond (within first 1 page) (Some (union old perms)) old → new ≡ cond (within (first + 1) pages page) (Some (union mid perms)) mid → new ≡ cond (within first (suc pages) page) (Some (union old perms)) old
 step first pages page perms old mid new one rest = by (cases_lt page first) (cases_lt first page) (cases_lt page (first + suc pages))
   where
@@ -58,7 +58,7 @@ step first pages page perms old mid new one rest = by (cases_lt page first) (cas
         ∙ one ∙ passed (within first 1 page) _ _ (is_behind first 1 page le (omega arith))
         ∙ sym (passed (within first (suc pages) page) _ _ (is_behind first (suc pages) page le behind))
 
--- so many pages get more permissions, beside those that they have
+-- a range of pages gets more permissions, in addition to those that it has
 pages_add : (first pages : ℕ) (perms : Perms) (runs : List Area) → first + pages ≤ 2 ^ 26 → IsCanonical runs → IsCanonical (with_pages first pages perms runs) × Adds first pages perms runs (with_pages first pages perms runs)
 pages_add first zero perms runs fits c = (c, λ page. none page (cases_lt page first))
   where

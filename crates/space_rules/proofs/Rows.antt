@@ -42,7 +42,7 @@ stack : stack_bytes args env 0x10078 ≡
     ∷ []
 stack = refl
 
--- no string at all: 9 words, and 8 zeros behind them
+-- no string at all: 9 words, and 8 zeros after them
 nothing_pointer : sp_of [] [] ≡ 0x3FFFFEFFB0
 nothing_pointer = refl
 

@@ -34,7 +34,7 @@ words_size (word ∷ words) = let rest : length (flat_map (bytes_of 8) words) �
 pub few_strings : (args env : List (List ℕ)) → is_too_big args env ≡ false → (length args + length env ≤ 512) × (length (strings_of args env) ≤ 65536)
 few_strings args env h = grind arith
 
--- so many bytes of strings and so many words, in numbers
+-- the numbers of bytes of strings and of words
 within_numbers : (size count start sp gap length_all : ℕ) → size ≤ 65536 → count ≤ 521 → start ≡ 274877841408 - size → sp ≡ (start - 8 * count) / 16 * 16 → gap ≡ start - (sp + 8 * count) → length_all ≡ 8 * count + gap + size → (274876792832 ≤ sp) × (sp + length_all ≡ 274877841408) × (sp % 16 ≡ 0)
 within_numbers size count start sp gap length_all few some is_start is_sp is_gap is_all = (omega arith, omega arith, omega arith)
 
@@ -69,7 +69,7 @@ laid_out args env a e is_a is_e =
       gap = λ i. 274877841408 - size i - ((274877841408 - size i - 8 * count i) / 16 * 16 + 8 * count i);
     }
 
--- the words one behind the other
+-- the words one after the other
 words_bytes : (args env : List (List ℕ)) (entry : ℕ) → flat_map (bytes_of 8) (words_of args env entry) ≡ ((bytes_of 8 (length args) ++ flat_map (bytes_of 8) (addresses (strings_start args env) args)) ++ (bytes_of 8 0 ++ flat_map (bytes_of 8) (addresses (env_start args env) env))) ++ (bytes_of 8 0 ++ flat_map (bytes_of 8) (auxiliary_vector entry))
 words_bytes args env entry =
     let first = length args ∷ addresses (strings_start args env) args in
@@ -89,7 +89,7 @@ stack_is args env entry strings env_strings gap s e g =
     ∙ pieces (bytes_of 8 (length args)) (flat_map (bytes_of 8) (addresses (strings_start args env) args)) (bytes_of 8 0) (flat_map (bytes_of 8) (addresses (env_start args env) env)) (bytes_of 8 0) (flat_map (bytes_of 8) (auxiliary_vector entry)) (replicate (gap_of args env) 0) (closed_all args) (closed_all env)
     ∙ (λ i. sym (words_bytes args env entry) i ++ replicate (gap_of args env) 0 ++ sym (flat_map-append closed args env) i)
 
--- bytes that were written one piece behind the other
+-- bytes that were written one piece after the other
 pub written : (b c d e f g h k l m n p q r s t u v w : List ℕ) → b ≡ [] → c ≡ b ++ m → d ≡ c ++ n → e ≡ d ++ p → f ≡ e ++ q → g ≡ f ++ r → h ≡ g ++ s → k ≡ h ++ t → l ≡ k ++ u → w ≡ l ++ v → w ≡ m ++ n ++ p ++ q ++ r ++ s ++ t ++ u ++ v
 written b c d e f g h k l m n p q r s t u v w e0 e1 e2 e3 e4 e5 e6 e7 e8 e9 =
     e9 ∙ ap (λ (x : List ℕ). x ++ v) (e8 ∙ ap (λ (x : List ℕ). x ++ u) (e7 ∙ ap (λ (x : List ℕ). x ++ t) (e6 ∙ ap (λ (x : List ℕ). x ++ s) (e5 ∙ ap (λ (x : List ℕ). x ++ r) (e4 ∙ ap (λ (x : List ℕ). x ++ q) (e3 ∙ ap (λ (x : List ℕ). x ++ p) (e2 ∙ ap (λ (x : List ℕ). x ++ n) (e1 ∙ ap (λ (x : List ℕ). x ++ m) e0))))))))

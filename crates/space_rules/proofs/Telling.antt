@@ -12,7 +12,7 @@ use Rattle.space_rules.proofs.Strings.{strings_size, length_addresses, words_are
 word_back : (word : ℕ) → word < 2 ^ 64 → number_of (bytes_of 8 word) ≡ word
 word_back word h = omega arith
 
--- eight bytes from a word on
+-- the eight bytes of a word
 eight : (words rest : List ℕ) (k : ℕ) → k < length words → take 8 (drop (8 * k) (flat_map (bytes_of 8) words ++ rest)) ≡ bytes_of 8 (get_or words k 0)
 eight [] rest k h = absurd (omega arith)
 eight (word ∷ words) rest zero h = refl
@@ -25,7 +25,7 @@ found : (words rest bytes : List ℕ) (k place word : ℕ) → bytes ≡ flat_ma
 found words rest bytes k place word is at h there small =
     (λ i. word_at (is i) (at i)) ∙ ap number_of (eight words rest k h) ∙ ap (λ (w : ℕ). number_of (bytes_of 8 w)) there ∙ word_back word small
 
--- the address of a string, behind those before it
+-- the address of a string, after those before it
 address_of : (from : ℕ) (strings : List (List ℕ)) (i : ℕ) → i < length strings → get_or (addresses from strings) i 0 ≡ from + length (closed_all (take i strings))
 address_of from [] i h = absurd (omega arith)
 address_of from (string ∷ strings) zero h = omega arith
@@ -37,7 +37,7 @@ address_of from (string ∷ strings) (suc i) h =
 drop_behind : (front rest : List ℕ) (n : ℕ) → drop (length front + n) (front ++ rest) ≡ drop n rest
 drop_behind front rest n = sym (drop-drop n (length front) (front ++ rest)) ∙ ap (λ (l : List ℕ). drop n l) (drop_at front rest (length front) refl)
 
--- a string among strings, behind other bytes
+-- a string among strings, after other bytes
 string_at : (front : List ℕ) (strings : List (List ℕ)) (i : ℕ) → i < length strings → take (length (closed (get_or strings i []))) (drop (length front + length (closed_all (take i strings))) (front ++ closed_all strings)) ≡ closed (get_or strings i [])
 string_at front strings i h =
     let string = get_or strings i [] in
@@ -100,7 +100,7 @@ behind_numbers sp front start before address e f = omega arith
 above_numbers : (sp front start before address : ℕ) → sp + front ≡ start → address ≡ start + before → sp ≤ address
 above_numbers sp front start before address e f = omega arith
 
--- the strings begin behind the words and the zeros
+-- the strings begin after the words and the zeros
 front_size : (args env : List (List ℕ)) (entry : ℕ) → is_too_big args env ≡ false → sp_of args env + length (flat_map (bytes_of 8) (words_of args env entry) ++ replicate (gap_of args env) 0) ≡ strings_start args env
 front_size args env entry h =
     let few = few_strings args env h in
@@ -120,7 +120,7 @@ front_less strings i =
     let all : length (closed_all strings) ≡ length (closed_all (take i strings)) + length (closed_all (drop i strings)) = ap (λ (l : List (List ℕ)). length (closed_all l)) (sym (take-append-drop i strings)) ∙ strings_size (take i strings) (drop i strings) in
     omega arith
 
--- the string of a number among all strings stands at its address
+-- each string is at its address
 stands : (args env : List (List ℕ)) (entry number address : ℕ) (string : List ℕ) → is_too_big args env ≡ false → number < length (args ++ env) → address ≡ strings_start args env + length (closed_all (take number (args ++ env))) → get_or (args ++ env) number [] ≡ string → StandsAt (sp_of args env) (stack_bytes args env entry) address string
 stands args env entry number address string h there at is =
     let front : List ℕ = flat_map (bytes_of 8) (words_of args env entry) ++ replicate (gap_of args env) 0 in

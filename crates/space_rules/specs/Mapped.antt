@@ -14,7 +14,7 @@ abbrev pub union : Option Perms → Perms → Perms
 union None more = more
 union (Some perms) more = record { 0 = bit_or perms.0 more.0 }
 
--- so many pages from a page on are mapped with these permissions, beside those that they have
+-- `pages` pages, starting at `first`, get these permissions in addition to those that they have
 abbrev pub with_pages : ℕ → ℕ → Perms → List Area → List Area
 with_pages first zero perms runs = runs
 with_pages first (suc pages) perms runs = with_pages (first + 1) pages perms (put_runs first 1 (union (perms_of runs first) perms) runs)
@@ -50,7 +50,7 @@ image_areas_of segments = put_runs stack_page stack_pages read_write (areas_of s
 abbrev pub meets : Segment → ℕ → Bool
 meets s page = nat_lt s.vaddr ((page + 1) * 4096) && nat_lt (page * 4096) (s.vaddr + s.memsz)
 
--- the permissions of a page beside those that it has: the union of those of the loads that meet it
+-- the permissions of a page after some loads: those that it had, and those of the loads that meet it
 abbrev pub perms_of_loads : List Segment → Option Perms → ℕ → Option Perms
 perms_of_loads [] perms page = perms
 perms_of_loads (s ∷ segments) perms page = perms_of_loads segments (if meets s page then Some (union perms s.perms) else perms) page
@@ -65,6 +65,6 @@ BootMapsTheLoads = (segments : List Segment) → AllByRecursion IsBoundedSegment
 abbrev pub ImageMapsLoadsAndStack : Type 0
 ImageMapsLoadsAndStack = (segments : List Segment) → AllByRecursion IsBoundedSegment segments → IsCanonical (image_areas_of segments) × ((page : ℕ) → perms_of (image_areas_of segments) page ≡ in_range stack_page stack_pages page (Some read_write) (perms_of_loads segments None page))
 
--- It begins with few runs: each begins with a load or the stack, or behind one.
+-- It begins with few runs: each begins where a load or the stack begins or ends.
 abbrev pub ImageHasFewRuns : Type 0
 ImageHasFewRuns = (segments : List Segment) → AllByRecursion IsBoundedSegment segments → length (image_areas_of segments) ≤ length segments + length segments + 2

@@ -8,16 +8,16 @@ use Rattle.area_list.specs.Runs.{IsCanonical}
 use Rattle.area_list.specs.Gap.{lowest_gap}
 use Rattle.space_rules.specs.declared.TheConstants.{MAPPINGS_START}
 
--- the pages that so many bytes need
+-- the number of pages that `len` bytes need
 abbrev pub pages_for : ℕ → ℕ
 pages_for len = (len + 4095) / 4096
 
--- the lowest page address from the start of mappings on, from which the pages of so many bytes are unmapped and end
--- within the address space
+-- the lowest page address, the start of mappings or above, at which unmapped pages for `len` bytes start that end within
+-- the address space
 abbrev pub place_of : List Area → ℕ → Option ℕ
 place_of areas len = option_map (λ page. page * 4096) (lowest_gap areas (MAPPINGS_START / 4096) (pages_for len))
 
--- so many bytes from a page address on, among the addresses for mappings, are all unmapped
+-- `len` bytes, starting at a page address among those for mappings, are all unmapped
 pub record IsPlace (areas : List Area) (len at : ℕ) : Type 0 where
   pub aligned : at % 4096 ≡ 0
   pub start : MAPPINGS_START ≤ at

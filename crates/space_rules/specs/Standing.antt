@@ -1,4 +1,4 @@
--- A stack that a process starts with, and where its parts stand.
+-- A stack that a process starts with, and where its parts are.
 use Rattle.std.specs.Prelude.{◌≡◌, ℕ, ◌+◌, ◌≤◌, ◌%◌, false, List, length}
 use Rattle.space_rules.specs.declared.TheConstants.{STACK_START, STACK_END}
 use Rattle.space_rules.specs.declared.stack.StackImage.{StackImage}
@@ -21,7 +21,7 @@ pub record IsStack (args env : List (List ℕ)) (entry : ℕ) (image : StackImag
 abbrev pub StackIsWithin : Type 0
 StackIsWithin = (args env : List (List ℕ)) (entry : ℕ) → is_too_big args env ≡ false → IsWithinStack (sp_of args env) (stack_bytes args env entry)
 
--- where the parts of a stack stand
+-- where the parts of a stack are
 pub record IsLayout (args env : List (List ℕ)) (layout : Layout) : Type 0 where
   pub strings : layout.strings ≡ strings_start args env
   pub env_strings : layout.env ≡ env_start args env

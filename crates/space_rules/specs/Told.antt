@@ -1,4 +1,4 @@
--- What a program finds that reads its stack from the stack pointer on.
+-- What a program finds that reads its stack, starting at the stack pointer.
 use Rattle.std.specs.Prelude.{◌≡◌, ℕ, ◌+◌, ◌-◌, ◌*◌, ◌<◌, ◌≤◌, ◌^◌, false, List, [], length, take, drop, slice_index, slice_index_or}
 use Rattle.lego_base.specs.Space.{number_of}
 use Rattle.space_rules.specs.Start.{closed, is_too_big, auxiliary_vector, sp_of, stack_bytes}
@@ -7,13 +7,13 @@ use Rattle.space_rules.specs.Start.{closed, is_too_big, auxiliary_vector, sp_of,
 abbrev pub word_at : List ℕ → ℕ → ℕ
 word_at bytes place = number_of (take 8 (drop (8 * place) bytes))
 
--- a string stands at an address with its closing 0
+-- a string is at an address, with its closing 0
 pub record StandsAt (sp : ℕ) (bytes : List ℕ) (address : ℕ) (string : List ℕ) : Type 0 where
   pub above : sp ≤ address
   pub there : take (length (closed string)) (drop (address - sp) bytes) ≡ closed string
 
--- The first word counts the arguments. Behind it stand the addresses of the arguments, 0, the addresses of the
--- environment's strings, 0, and the auxiliary vector.
+-- The first word counts the arguments. Then come the addresses of the arguments, 0, the addresses of the environment's
+-- strings, 0, and the auxiliary vector.
 pub record TellsAll (args env : List (List ℕ)) (entry sp : ℕ) (bytes : List ℕ) : Type 0 where
   pub count : word_at bytes 0 ≡ length args
   pub arg : (i : ℕ) → i < length args → StandsAt sp bytes (word_at bytes (1 + i)) (slice_index_or args i [])

@@ -1,3 +1,5 @@
+//! The pages that a process begins with.
+
 ghost use Rattle.std.specs.Prelude.{◌≡◌, ℕ, ◌+◌, ◌≤◌, ◌^◌, [], ◌∷◌, length, All, IfOk};
 ghost use Rattle.area_list.specs.declared.TheConstants.{MOST_RUNS};
 ghost use Rattle.elf_image.specs.Image.{IsBoundedSegment};
@@ -48,7 +50,7 @@ fn map_pages(areas: &mut Areas, segment: &Segment)
     add_pages(areas, first, count, segment.perms);
 }
 
-// So many pages from a page on, with these permissions beside those that they have.
+// Adds permissions to `count` pages, starting at page `first`.
 fn add_pages(areas: &mut Areas, first: u64, count: u64, perms: Perms)
     requires ends { first + count ≤ 2 ^ 26 }
     requires few { (pages : ℕ) → pages ≤ count → length (with_pages first pages perms areas.old) ≤ MOST_RUNS }
@@ -59,7 +61,7 @@ fn add_pages(areas: &mut Areas, first: u64, count: u64, perms: Perms)
         let all = with_more(areas.perms_at(vpn), perms);
         match areas.put(vpn, 1, all) {
             Ok(()) => {}
-            Err(_) => unreachable!(),
+            Err(_) => unreachable!(), // 64 loads make 128 runs at most, on the way to the last page too
         }
     }
 }

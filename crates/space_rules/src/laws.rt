@@ -1,3 +1,5 @@
+//! What the definitions say of single pages and addresses.
+
 ghost use Rattle.space_rules.specs.Mapped.{BootMapsTheLoads, ImageMapsLoadsAndStack, ImageHasFewRuns};
 ghost use Rattle.space_rules.specs.Place.{PlaceIsLowest};
 ghost use Rattle.space_rules.specs.Standing.{StackIsWithin};

@@ -1,3 +1,5 @@
+//! Where a mapping goes.
+
 ghost use Rattle.std.specs.Prelude.{◌≡◌, ℕ, MatchOption};
 ghost use Rattle.space_rules.specs.Place.{pages_for, place_of, IsPlace, IsLowestPlace};
 
@@ -5,9 +7,9 @@ use crate::MAPPINGS_START;
 use area_list::Areas;
 use lego_base::{PAGE_BYTES, Vpn};
 
-/// Where `mmap(2)` puts `len` bytes whose caller names no address: the lowest page address from
-/// `MAPPINGS_START` on, from which all pages of the length are unmapped and end within the address
-/// space. None exactly where there is no such address.
+/// Where `mmap(2)` puts `len` bytes whose caller names no address: the lowest page address,
+/// `MAPPINGS_START` or above, at which unmapped pages for the whole length start that end within the
+/// address space. `None` exactly where there is no such address.
 pub fn place(areas: &Areas, len: u64) -> Option<u64>
     ensures place { result ≡ place_of areas.now len }
     ensures lowest { MatchOption result ((at : ℕ) → IsPlace areas.now len at → ⊥) (IsLowestPlace areas.now len) }
@@ -18,7 +20,7 @@ pub fn place(areas: &Areas, len: u64) -> Option<u64>
     }
 }
 
-// The pages that so many bytes need.
+// The number of pages that `len` bytes need.
 fn pages_for(len: u64) -> u64
     ensures { result ≡ pages_for len }
 {

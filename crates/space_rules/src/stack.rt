@@ -1,3 +1,5 @@
+//! The stack at a program's entry.
+
 ghost use Rattle.std.specs.Prelude.{◌≡◌, ◌+◌, ◌≤◌, ◌<◌, ◌^◌, ◌↔◌, false, IsTrue, IsErrOf, length, IfOk, OnOk, MatchOption, ◌++◌, ◌∷◌, [], flat_map, replicate};
 ghost use Rattle.lego_base.specs.Space.{bytes_of};
 ghost use Rattle.space_rules.specs.Start.{closed_all, is_too_big, addresses, auxiliary_vector, sp_of, stack_bytes, strings_of};
@@ -6,6 +8,10 @@ ghost use Rattle.space_rules.specs.Standing.{IsLayout, IsStack};
 use crate::{AT_ENTRY, AT_NULL, AT_PAGESZ, MOST_STRING_BYTES, MOST_STRINGS, STACK_END};
 use lego_base::{Bytes, NoMemory, PAGE_BYTES};
 use std::alloc::Global;
+
+// The words of a start stack that aren't addresses of strings: argc, the zeros after the arguments and after the
+// environment, and the six words of the auxiliary vector.
+const OTHER_WORDS: usize = 1 + 2 + 6;
 
 /// What a process finds on its stack when it starts.
 #[derive(Debug, Drop)]
@@ -24,7 +30,7 @@ pub enum StackFault {
 }
 
 /// The stack on which a process starts with these arguments, this environment and this entry, as the
-/// System V ABI has it. `TooBig` comes exactly where the strings are too many or too long.
+/// System V ABI has it. `TooBig` exactly where the strings are too many or too long.
 pub fn stack_image(
     alloc: Global,
     args: &[Bytes],
@@ -50,14 +56,14 @@ fn is_too_big(args: &[Bytes], env: &[Bytes]) -> bool
     if args.len() + env.len() > MOST_STRINGS {
         return true;
     }
-    match room_behind(args, MOST_STRING_BYTES) {
-        Some(left) => room_behind(env, left).is_none(),
+    match room_after(args, MOST_STRING_BYTES) {
+        Some(left) => room_after(env, left).is_none(),
         None => true,
     }
 }
 
-// How many of so many bytes are left behind strings with their closing zeros; None where these don't fit.
-fn room_behind(strings: &[Bytes], room: usize) -> Option<usize>
+// The bytes of `room` that are left after strings with their closing zeros; `None` where these don't fit.
+fn room_after(strings: &[Bytes], room: usize) -> Option<usize>
     ensures { MatchOption result (room < length (closed_all strings.now)) (λ left. left + length (closed_all strings.now) ≡ room) }
 {
     let mut left = room;
@@ -70,7 +76,7 @@ fn room_behind(strings: &[Bytes], room: usize) -> Option<usize>
     Some(left)
 }
 
-// Where the parts of a stack stand.
+// Where the parts of a stack are.
 #[derive(Clone, Copy)]
 struct Layout {
     strings: u64, // the address of the first string
@@ -85,7 +91,7 @@ fn lay_out(args: &[Bytes], env: &[Bytes]) -> Layout
 {
     let args_size = closed_size(args);
     let strings = STACK_END - (args_size + closed_size(env)) as u64;
-    let words = 8 * (args.len() + env.len() + 9) as u64;
+    let words = 8 * (args.len() + env.len() + OTHER_WORDS) as u64;
     let sp = (strings - words) / 16 * 16;
     Layout {
         strings,
@@ -95,7 +101,7 @@ fn lay_out(args: &[Bytes], env: &[Bytes]) -> Layout
     }
 }
 
-// How many bytes strings have with their closing zeros.
+// The bytes of strings with their closing zeros.
 fn closed_size(strings: &[Bytes]) -> usize
     requires { length (closed_all strings.now) ≤ MOST_STRING_BYTES }
     ensures { result ≡ length (closed_all strings.now) }
@@ -139,7 +145,7 @@ fn push_word(bytes: &mut Vec<u8>, word: u64) -> Result<(), NoMemory>
     Ok(())
 }
 
-// The addresses of strings that stand one behind the other from an address on.
+// The addresses of strings of which the first is at an address and each next one follows.
 fn push_addresses(bytes: &mut Vec<u8>, from: u64, strings: &[Bytes]) -> Result<(), NoMemory>
     requires { from + length (closed_all strings.now) < 2 ^ 64 }
     ensures { OnOk result (bytes.new.items ≡ bytes.old.items ++ flat_map (bytes_of 8) (addresses from strings.now)) }
@@ -171,7 +177,7 @@ fn push_zeros(bytes: &mut Vec<u8>, count: u64) -> Result<(), NoMemory>
     Ok(())
 }
 
-// Strings one behind the other, each with its closing 0.
+// Strings one after the other, each with its closing 0.
 fn push_strings(bytes: &mut Vec<u8>, strings: &[Bytes]) -> Result<(), NoMemory>
     ensures { OnOk result (bytes.new.items ≡ bytes.old.items ++ closed_all strings.now) }
 {
