@@ -1,4 +1,4 @@
--- Pieces that are written one behind the other.
+-- Pieces that are written one after the other.
 use Rattle.std.proofs.Common.{◌≡◌, ℕ, ◌≤◌, sym, ◌∙◌, ap, subst, List, [], ◌∷◌, ◌++◌, length, map, arith}
 use Rattle.std.specs.Prelude.{All, flat_map, codes}
 use Rattle.std.specs.Int.{w16, w32, w64, to_le_bytes}
@@ -11,7 +11,7 @@ use Rattle.lego_base.specs.declared.report.Ended.{Ended}
 use Rattle.lego_base.specs.declared.report.Exit.{Exit}
 use Rattle.lego_base.specs.declared.report.Counts.{Counts}
 use Rattle.report_text.specs.Report.{ending_line, turns_line, exit_line, cpu_lines, report_of}
-use Rattle.report_text.specs.Archive.{by_name, entry_of, archive_of}
+use Rattle.report_text.specs.Archive.{by_name, file_record, archive_of}
 use Rattle.report_text.proofs.ByName.{by_name_permutes}
 
 pub four : (old a b c d s t u v : List ℕ) → s ≡ old ++ a → t ≡ s ++ b → u ≡ t ++ c → v ≡ u ++ d → v ≡ old ++ (a ++ b ++ c ++ d)
@@ -52,10 +52,10 @@ all_of_map P f (y ∷ ys) all = All-cons (λ z. P (f z)) y ys (All-head P (f y) 
 pub names_fit : {Y : Type 0} (f : Y → FileOut) (files : List FileOut) (ys : List Y) → map f ys ≡ by_name files → All (λ file. length file.name ≤ 65535) files → All (λ y. length (f y).name ≤ 65535) ys
 names_fit f files ys is all = all_of_map (λ file. length file.name ≤ 65535) f ys (subst (λ (l : List FileOut). All (λ file. length file.name ≤ 65535) l) (sym is) (All-permutation (λ file. length file.name ≤ 65535) files (by_name files) (by_name_permutes files) all))
 
-pub archive_is : (files sorted : List FileOut) (mark count first second all : List ℕ) → mark ≡ codes "LEGOARC1" → count ≡ bytes_of 4 (length files) → sorted ≡ by_name files → first ≡ mark → second ≡ first ++ count → all ≡ second ++ flat_map entry_of sorted → all ≡ archive_of files
+pub archive_is : (files sorted : List FileOut) (mark count first second all : List ℕ) → mark ≡ codes "LEGOARC1" → count ≡ bytes_of 4 (length files) → sorted ≡ by_name files → first ≡ mark → second ≡ first ++ count → all ≡ second ++ flat_map file_record sorted → all ≡ archive_of files
 unfolding archive_of
 archive_is files sorted mark count first second all is_mark is_count is_sorted e f g =
-    g ∙ (λ i. (f ∙ (λ j. (e ∙ is_mark) j ++ is_count j)) i ++ flat_map entry_of (is_sorted i))
+    g ∙ (λ i. (f ∙ (λ j. (e ∙ is_mark) j ++ is_count j)) i ++ flat_map file_record (is_sorted i))
 
 pub report_is : (ending : Ended) (exits : List Exit) (counts : List Counts) (none first second all : List ℕ) → none ≡ [] → first ≡ none ++ ending_line ending.word ++ turns_line ending.turns → second ≡ first ++ flat_map exit_line exits → all ≡ second ++ cpu_lines 0 counts → all ≡ report_of ending exits counts
 unfolding report_of

@@ -8,7 +8,7 @@ use Rattle.std.proofs.lemmas.Cmp.{nat_list_cmp_total, upto}
 use Rattle.std.proofs.lemmas.List.Sorted.{IsPermutation-refl, IsPermutation-cons, IsPermutation-swap, IsPermutation-trans, length_permutation}
 use Rattle.lego_base.specs.declared.report.FileOut.{FileOut}
 use Rattle.lego_base.specs.Space.{bytes_of}
-use Rattle.report_text.specs.Archive.{name_order, inserted, by_name, entry_of, archive_of, NamesDiffer}
+use Rattle.report_text.specs.Archive.{name_order, inserted, by_name, file_record, archive_of, NamesDiffer}
 use Rattle.report_text.proofs.Sorting.{order, NotAbove, Ordered, lt_is_gt, sorted_of, sorted_unique}
 
 abbrev pub name : FileOut → List ℕ
@@ -64,4 +64,4 @@ by_name_free files others apart moved = sorted_unique name files (by_name others
 
 pub archive_free : (files others : List FileOut) → NamesDiffer files → IsPermutation files others → archive_of others ≡ archive_of files
 unfolding archive_of
-archive_free files others apart moved = λ i. codes "LEGOARC1" ++ bytes_of 4 (length_permutation files others moved i) ++ flat_map entry_of (by_name_free files others apart moved i)
+archive_free files others apart moved = λ i. codes "LEGOARC1" ++ bytes_of 4 (length_permutation files others moved i) ++ flat_map file_record (by_name_free files others apart moved i)

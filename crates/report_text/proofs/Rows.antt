@@ -49,7 +49,7 @@ one_file : archive_of (file (codes "out") (codes "hi") ∷ []) ≡ codes "LEGOAR
 unfolding archive_of
 one_file = refl
 
--- a name stands before a longer one that it begins
+-- a name comes before a longer one that it begins
 three_files : archive_of (file (codes "b") [] ∷ file (codes "ab") (7 ∷ []) ∷ file (codes "a") (8 ∷ 9 ∷ []) ∷ []) ≡ codes "LEGOARC1" ++ 3 ∷ 0 ∷ 0 ∷ 0 ∷ [] ++ 1 ∷ 0 ∷ 0x61 ∷ 2 ∷ 0 ∷ 0 ∷ 0 ∷ 0 ∷ 0 ∷ 0 ∷ 0 ∷ 8 ∷ 9 ∷ [] ++ 2 ∷ 0 ∷ 0x61 ∷ 0x62 ∷ 1 ∷ 0 ∷ 0 ∷ 0 ∷ 0 ∷ 0 ∷ 0 ∷ 0 ∷ 7 ∷ [] ++ 1 ∷ 0 ∷ 0x62 ∷ 0 ∷ 0 ∷ 0 ∷ 0 ∷ 0 ∷ 0 ∷ 0 ∷ 0 ∷ []
 unfolding archive_of
 three_files = refl

@@ -49,7 +49,7 @@ pub lt_is_gt : (xs ys : List ℕ) → is_lt (order xs ys) ≡ is_gt (order ys xs
 lt_is_gt xs ys = lt_of_reverse (order xs ys) (order ys xs) (nat_list_cmp_total.antisymm xs ys)
 
 module _ {X : Type 0} (key : X → List ℕ) where
-  -- no thing has a key above those behind it
+  -- nothing has a key above those after it
   abbrev pub NotAbove : X → List X → Type 0
   NotAbove x [] = Unit {0}
   NotAbove x (y ∷ ys) = (is_gt (order (key x) (key y)) ≡ false) × NotAbove x ys
@@ -58,7 +58,7 @@ module _ {X : Type 0} (key : X → List ℕ) where
   Ordered [] = Unit {0}
   Ordered (x ∷ xs) = NotAbove x xs × Ordered xs
 
-  -- each has a key below those behind it
+  -- each has a key below those after it
   abbrev pub Below : X → List X → Type 0
   Below x [] = Unit {0}
   Below x (y ∷ ys) = (order (key x) (key y) ≡ Less) × Below x ys

@@ -6,7 +6,7 @@ use Rattle.std.proofs.lemmas.List.Elements.{All-head, All-tail}
 use Rattle.std.proofs.lemmas.List.Sorted.{All-permutation, length_permutation}
 use Rattle.lego_base.specs.declared.report.FileOut.{FileOut}
 use Rattle.lego_base.specs.Space.{bytes_of}
-use Rattle.report_text.specs.Archive.{by_name, entry_of, archive_of, CanBeArchived}
+use Rattle.report_text.specs.Archive.{by_name, file_record, archive_of, CanBeArchived}
 use Rattle.report_text.proofs.ByName.{by_name_permutes}
 
 -- parts that are as long are equal where the wholes are
@@ -41,8 +41,8 @@ four_back a b h k e = same_number 4 a b e (omega arith)
 eight_back : (a b : ℕ) → a < 2 ^ 64 → b < 2 ^ 64 → bytes_of 8 a ≡ bytes_of 8 b → a ≡ b
 eight_back a b h k e = same_number 8 a b e (omega arith)
 
--- the first file, and what stands behind it
-entry_apart : (file : FileOut) (rest : List ℕ) → entry_of file ++ rest ≡ bytes_of 2 (length file.name) ++ (file.name ++ (bytes_of 8 (length file.bytes) ++ (file.bytes ++ rest)))
+-- the first file, and what comes after it
+entry_apart : (file : FileOut) (rest : List ℕ) → file_record file ++ rest ≡ bytes_of 2 (length file.name) ++ (file.name ++ (bytes_of 8 (length file.bytes) ++ (file.bytes ++ rest)))
 entry_apart file rest =
     append_assoc (bytes_of 2 (length file.name) ++ file.name ++ bytes_of 8 (length file.bytes)) file.bytes rest
     ∙ append_assoc (bytes_of 2 (length file.name) ++ file.name) (bytes_of 8 (length file.bytes)) (file.bytes ++ rest)
@@ -51,7 +51,7 @@ entry_apart file rest =
 abbrev Fits : FileOut → Type 0
 Fits file = (length file.name ≤ 65535) × (length file.bytes < 2 ^ 64)
 
-first_back : (file other : FileOut) (rest more : List ℕ) → Fits file → Fits other → entry_of file ++ rest ≡ entry_of other ++ more → (file ≡ other) × (rest ≡ more)
+first_back : (file other : FileOut) (rest more : List ℕ) → Fits file → Fits other → file_record file ++ rest ≡ file_record other ++ more → (file ≡ other) × (rest ≡ more)
 first_back file other rest more h k e =
     let whole = sym (entry_apart file rest) ∙ e ∙ entry_apart other more in
     let size : length file.name ≡ length other.name = two_back (length file.name) (length other.name) h.0 k.0 (front_same (bytes_of 2 (length file.name)) _ (bytes_of 2 (length other.name)) _ refl whole) in
@@ -63,12 +63,12 @@ first_back file other rest more h k e =
     let bytes : file.bytes ≡ other.bytes = front_same file.bytes rest other.bytes more count behind_count in
     ((λ i. record { name = name i; bytes = bytes i }), back_same file.bytes rest other.bytes more count behind_count)
 
-files_back : (files others : List FileOut) → length files ≡ length others → All Fits files → All Fits others → flat_map entry_of files ≡ flat_map entry_of others → files ≡ others
+files_back : (files others : List FileOut) → length files ≡ length others → All Fits files → All Fits others → flat_map file_record files ≡ flat_map file_record others → files ≡ others
 files_back [] [] n h k e = refl
 files_back [] (other ∷ others) n h k e = absurd (omega arith)
 files_back (file ∷ files) [] n h k e = absurd (omega arith)
 files_back (file ∷ files) (other ∷ others) n h k e =
-    let both = first_back file other (flat_map entry_of files) (flat_map entry_of others) (All-head Fits file files h) (All-head Fits other others k) e in
+    let both = first_back file other (flat_map file_record files) (flat_map file_record others) (All-head Fits file files h) (All-head Fits other others k) e in
     let rest : files ≡ others = files_back files others (omega arith) (All-tail Fits file files h) (All-tail Fits other others k) both.1 in
     λ i. both.0 i ∷ rest i
 
@@ -76,8 +76,8 @@ pub archive_back : (files others : List FileOut) → CanBeArchived files → Can
 unfolding archive_of
 archive_back files others h k e =
     let mark : List ℕ = codes "LEGOARC1" in
-    let front : mark ++ bytes_of 4 (length files) ≡ mark ++ bytes_of 4 (length others) = front_same (mark ++ bytes_of 4 (length files)) (flat_map entry_of (by_name files)) (mark ++ bytes_of 4 (length others)) (flat_map entry_of (by_name others)) refl e in
+    let front : mark ++ bytes_of 4 (length files) ≡ mark ++ bytes_of 4 (length others) = front_same (mark ++ bytes_of 4 (length files)) (flat_map file_record (by_name files)) (mark ++ bytes_of 4 (length others)) (flat_map file_record (by_name others)) refl e in
     let count : length files ≡ length others = four_back (length files) (length others) h.few k.few (back_same mark (bytes_of 4 (length files)) mark (bytes_of 4 (length others)) refl front) in
     let size : length (by_name files) ≡ length (by_name others) = length_permutation files (by_name files) (by_name_permutes files) ∙ count ∙ sym (length_permutation others (by_name others) (by_name_permutes others)) in
     files_back (by_name files) (by_name others) size (All-permutation Fits files (by_name files) (by_name_permutes files) (λ n d l. (h.names n d l, h.sizes n d l))) (All-permutation Fits others (by_name others) (by_name_permutes others) (λ n d l. (k.names n d l, k.sizes n d l)))
-    (back_same (mark ++ bytes_of 4 (length files)) (flat_map entry_of (by_name files)) (mark ++ bytes_of 4 (length others)) (flat_map entry_of (by_name others)) refl e)
+    (back_same (mark ++ bytes_of 4 (length files)) (flat_map file_record (by_name files)) (mark ++ bytes_of 4 (length others)) (flat_map file_record (by_name others)) refl e)

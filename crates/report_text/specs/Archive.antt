@@ -1,4 +1,4 @@
--- The archive of a run's files. Numbers stand with their lowest byte first.
+-- The archive of a run's files. Numbers have their lowest byte first.
 use Rattle.std.specs.Prelude.{◌≡◌, ◌≢◌, ◌≤◌, ◌<◌, ◌^◌, All, ℕ, if◌then◌else◌, List, [], ◌∷◌, ◌++◌, length, flat_map, codes, AllPairs, IsPermutation, IsSortedByKey}
 use Rattle.std.specs.declared.cmp.Ordering.{Ordering}
 use Rattle.std.specs.Ordering.{nat_cmp, is_gt}
@@ -10,7 +10,7 @@ use Rattle.lego_base.specs.Space.{bytes_of}
 abbrev pub name_order : List ℕ → List ℕ → Ordering
 name_order = slice_cmp nat_cmp
 
--- files in rising order of names with one more, which stands before those whose names aren't below its own
+-- files in rising order of names and one more, which comes before those whose names aren't below its own
 abbrev pub inserted : FileOut → List FileOut → List FileOut
 inserted file [] = file ∷ []
 inserted file (other ∷ files) = if is_gt (name_order file.name other.name) then other ∷ inserted file files else file ∷ other ∷ files
@@ -20,15 +20,15 @@ abbrev pub by_name : List FileOut → List FileOut
 by_name [] = []
 by_name (file ∷ files) = inserted file (by_name files)
 
--- a file: its name behind the name's length, its bytes behind their number
-abbrev pub entry_of : FileOut → List ℕ
-entry_of file = bytes_of 2 (length file.name) ++ file.name ++ bytes_of 8 (length file.bytes) ++ file.bytes
+-- a file: the length of its name, the name, the number of its bytes, the bytes
+abbrev pub file_record : FileOut → List ℕ
+file_record file = bytes_of 2 (length file.name) ++ file.name ++ bytes_of 8 (length file.bytes) ++ file.bytes
 
 -- the archive: its mark, the number of files, and the files by name
 unfoldable pub archive_of : List FileOut → List ℕ
-archive_of files = codes "LEGOARC1" ++ bytes_of 4 (length files) ++ flat_map entry_of (by_name files)
+archive_of files = codes "LEGOARC1" ++ bytes_of 4 (length files) ++ flat_map file_record (by_name files)
 
--- no two files have one name
+-- no two files have the same name
 abbrev pub NamesDiffer : List FileOut → Type 0
 NamesDiffer files = AllPairs (λ file other. file.name ≢ other.name) files
 
@@ -46,6 +46,6 @@ pub record CanBeArchived (files : List FileOut) : Type 0 where
   pub sizes : All (λ file. length file.bytes < 2 ^ 64) files
   pub few : length files < 2 ^ 32
 
--- An archive tells its files: it is the archive of no others.
+-- An archive determines its files: it is the archive of no others.
 abbrev pub ArchiveTellsFiles : Type 0
 ArchiveTellsFiles = (files others : List FileOut) → CanBeArchived files → CanBeArchived others → archive_of files ≡ archive_of others → by_name files ≡ by_name others

@@ -36,11 +36,11 @@ cpu_line number counts =
     ++ codes " evictions " ++ decimal counts.evictions
     ++ codes " writebacks " ++ decimal counts.writebacks)
 
--- a line for each processor, numbered from this one on
+-- a line for each processor, the first with this number
 abbrev pub cpu_lines : ℕ → List Counts → List ℕ
 cpu_lines number [] = []
 cpu_lines number (counts ∷ more) = cpu_line number counts ++ cpu_lines (number + 1) more
 
--- the report of a run that ended so, with these exits in their order and these counts of processors
+-- the report of a run with this ending, these exits in their order and these counts of processors
 unfoldable pub report_of : Ended → List Exit → List Counts → List ℕ
 report_of ending exits counts = ending_line ending.word ++ turns_line ending.turns ++ flat_map exit_line exits ++ cpu_lines 0 counts

@@ -1,6 +1,8 @@
+//! The archive.
+
 ghost use Rattle.std.specs.Prelude.{◌≡◌, ℕ, ◌+◌, ◌≤◌, ◌<◌, ◌^◌, ◌++◌, [], length, map, flat_map, All, IfOk, OnOk};
 ghost use Rattle.lego_base.specs.Space.{bytes_of};
-ghost use Rattle.report_text.specs.Archive.{by_name, entry_of, archive_of, NamesDiffer};
+ghost use Rattle.report_text.specs.Archive.{by_name, file_record, archive_of, NamesDiffer};
 
 use lego_base::{Bytes, FileOut, NoMemory};
 use std::alloc::Global;
@@ -37,10 +39,10 @@ fn by_name(alloc: Global, files: &[FileOut]) -> Result<Vec<&FileOut>, NoMemory>
     Ok(sorted)
 }
 
-// The files one behind the other.
+// The files one after the other.
 fn push_files(bytes: &mut Vec<u8>, files: &[&FileOut]) -> Result<(), NoMemory>
     requires { All (λ file. length file.now.name ≤ 65535) files.now }
-    ensures { OnOk result (bytes.new.items ≡ bytes.old.items ++ flat_map entry_of (map (λ file. file.now) files.now)) }
+    ensures { OnOk result (bytes.new.items ≡ bytes.old.items ++ flat_map file_record (map (λ file. file.now) files.now)) }
 {
     for file in files {
         push_file(bytes, file)?;
@@ -48,10 +50,10 @@ fn push_files(bytes: &mut Vec<u8>, files: &[&FileOut]) -> Result<(), NoMemory>
     Ok(())
 }
 
-// A file's name behind the name's length, and its bytes behind their number.
+// The length of a file's name and the name, then the number of its bytes and the bytes.
 fn push_file(bytes: &mut Vec<u8>, file: &FileOut) -> Result<(), NoMemory>
     requires { length file.now.name ≤ 65535 }
-    ensures { OnOk result (bytes.new.items ≡ bytes.old.items ++ entry_of file.now) }
+    ensures { OnOk result (bytes.new.items ≡ bytes.old.items ++ file_record file.now) }
 {
     push(bytes, (file.name.len() as u16).to_le_bytes().as_slice())?;
     push(bytes, file.name.as_slice())?;

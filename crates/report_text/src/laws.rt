@@ -1,3 +1,5 @@
+//! What the definitions say.
+
 ghost use Rattle.report_text.specs.Archive.{ByNameSorts, OrderIsFree, ArchiveTellsFiles};
 
 /// Files by name are the same files, in rising order of names.
@@ -10,7 +12,7 @@ pub fn order_is_free()
     ensures { OrderIsFree }
 {}
 
-/// An archive tells its files: by name, it is the archive of no others.
+/// An archive determines its files: sorted by name, it is the archive of no others.
 pub fn archive_tells_files()
     ensures { ArchiveTellsFiles }
 {}

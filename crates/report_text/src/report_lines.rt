@@ -1,3 +1,5 @@
+//! The report.
+
 ghost use Rattle.std.specs.Prelude.{◌≡◌, ℕ, ◌+◌, ◌<◌, ◌^◌, ◌++◌, [], length, flat_map, decimal, string_bytes, IfOk, OnOk};
 ghost use Rattle.report_text.specs.Report.{word_of, ending_line, turns_line, exit_line, cpu_line, cpu_lines, report_of};
 
@@ -5,8 +7,8 @@ use lego_base::{Bytes, Counts, EndWord, Ended, Exit, NoMemory};
 use std::alloc::Global;
 use std::fmt::Write;
 
-/// The report of a run: its ending, the turns that were run, each exit in order, and a line for each
-/// processor of which there are counts, numbered from 0.
+/// The report of a run: its ending, the number of its turns, each exit in order, and a line for each
+/// processor that has counts, numbered from 0.
 pub fn report(
     alloc: Global,
     ending: &Ended,
@@ -84,7 +86,7 @@ fn push_count(text: &mut String, number: usize, counts: &Counts) -> Result<(), N
     Ok(())
 }
 
-// A number behind a word.
+// A word and then a number.
 fn push_number(text: &mut String, word: &str, number: u64) -> Result<(), NoMemory>
     ensures { OnOk result (string_bytes text.new ≡ string_bytes text.old ++ (word.now ++ decimal number)) }
 {
