@@ -16,7 +16,9 @@ covered runs first (suc pages) need = has_all (perms_of runs first) need && cove
 
 -- A range is covered exactly where each of its pages has the permissions.
 abbrev pub CoversEachPage : Type 0
-CoversEachPage = (runs : List Area) (first pages : ℕ) (need : Perms) → (covered runs first pages need ≡ true) ↔ ((page : ℕ) → first ≤ page → page < first + pages → has_all (perms_of runs page) need ≡ true)
+CoversEachPage =
+    (runs : List Area) (first pages : ℕ) (need : Perms)
+    → (covered runs first pages need ≡ true) ↔ ((page : ℕ) → first ≤ page → page < first + pages → has_all (perms_of runs page) need ≡ true)
 
 -- To have all of one permission is to allow it.
 abbrev pub HasOneIsAllows : Type 0

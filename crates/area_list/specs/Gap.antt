@@ -31,4 +31,6 @@ pub record IsLowestGap (runs : List Area) (first pages at : ℕ) : Type 0 where
 
 -- The lowest gap is one and no gap lies below it; where there is none, there is no gap.
 abbrev pub GapIsLowest : Type 0
-GapIsLowest = (runs : List Area) (first pages : ℕ) → IsCanonical runs → MatchOption (lowest_gap runs first pages) ((page : ℕ) → first ≤ page → IsGap runs page pages → ⊥) (IsLowestGap runs first pages)
+GapIsLowest =
+    (runs : List Area) (first pages : ℕ) → IsCanonical runs
+    → MatchOption (lowest_gap runs first pages) ((page : ℕ) → first ≤ page → IsGap runs page pages → ⊥) (IsLowestGap runs first pages)

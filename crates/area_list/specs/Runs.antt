@@ -82,10 +82,14 @@ cut_runs first pages runs = joined [] (below first runs ++ above (first + pages)
 
 -- Setting a range in canonical runs sets it, and clearing clears it.
 abbrev pub PutSets : Type 0
-PutSets = (first pages : ℕ) (perms : Perms) (runs : List Area) → first + pages ≤ PAGES_END → IsCanonical runs → IsPut first pages perms runs (put_runs first pages perms runs)
+PutSets =
+    (first pages : ℕ) (perms : Perms) (runs : List Area)
+    → first + pages ≤ PAGES_END → IsCanonical runs → IsPut first pages perms runs (put_runs first pages perms runs)
 
 abbrev pub CutClears : Type 0
-CutClears = (first pages : ℕ) (runs : List Area) → first + pages ≤ PAGES_END → IsCanonical runs → IsCut first pages runs (cut_runs first pages runs)
+CutClears =
+    (first pages : ℕ) (runs : List Area)
+    → first + pages ≤ PAGES_END → IsCanonical runs → IsCut first pages runs (cut_runs first pages runs)
 
 -- Canonical runs are determined by what they say of each page.
 abbrev pub CanonicalIsUnique : Type 0

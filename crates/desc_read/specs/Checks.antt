@@ -78,7 +78,8 @@ values (Err flaw ∷ rest) = values rest
 
 -- The values of a list's items. An item of a wrong kind comes before a count or an item that is out of range.
 abbrev pub all_of : {A : Type 0} → Bool → List (Result A Flaw) → Result (List A) Flaw
-all_of fits items = if list_any is_wrong_kind items then Err WrongKind else (if fits && not (list_any is_out_of_range items) then Ok (values items) else Err OutOfRange)
+all_of fits items =
+    if list_any is_wrong_kind items then Err WrongKind else (if fits && not (list_any is_out_of_range items) then Ok (values items) else Err OutOfRange)
 
 -- a list of least to most values that pass this check
 unfoldable pub list_of : {A : Type 0} → ℕ → ℕ → (Data → Result A Flaw) → Data → Result (List A) Flaw

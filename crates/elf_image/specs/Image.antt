@@ -48,7 +48,8 @@ has_other_abi bytes = not (bit_and (field bytes e_flags 4) 15 == 0)
 
 -- there are program headers and they aren't of 56 bytes, or their table ends past the end of the file
 unfoldable pub is_table_outside : List ℕ → Bool
-is_table_outside bytes = nat_lt 0 (header_count bytes) && not (header_size bytes == phdr_bytes) || nat_lt (length bytes) (table_offset bytes + phdr_bytes * header_count bytes)
+is_table_outside bytes =
+    nat_lt 0 (header_count bytes) && not (header_size bytes == phdr_bytes) || nat_lt (length bytes) (table_offset bytes + phdr_bytes * header_count bytes)
 
 -- there are too many program headers
 unfoldable pub has_many_headers : List ℕ → Bool

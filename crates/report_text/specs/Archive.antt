@@ -48,4 +48,6 @@ pub record CanBeArchived (files : List FileOut) : Type 0 where
 
 -- An archive determines its files: it is the archive of no others.
 abbrev pub ArchiveTellsFiles : Type 0
-ArchiveTellsFiles = (files others : List FileOut) → CanBeArchived files → CanBeArchived others → archive_of files ≡ archive_of others → by_name files ≡ by_name others
+ArchiveTellsFiles =
+    (files others : List FileOut) → CanBeArchived files → CanBeArchived others
+    → archive_of files ≡ archive_of others → by_name files ≡ by_name others

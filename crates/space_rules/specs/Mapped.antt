@@ -58,13 +58,21 @@ perms_of_loads (s ∷ segments) perms page = perms_of_loads segments (if meets s
 -- Booting maps each page that a load meets with the union of the permissions of the loads that meet it, and no
 -- other page.
 abbrev pub BootMapsTheLoads : Type 0
-BootMapsTheLoads = (segments : List Segment) → AllByRecursion IsBoundedSegment segments → IsCanonical (areas_of segments []) × ((page : ℕ) → perms_of (areas_of segments []) page ≡ perms_of_loads segments None page)
+BootMapsTheLoads =
+    (segments : List Segment) → AllByRecursion IsBoundedSegment segments
+    → IsCanonical (areas_of segments [])
+    × ((page : ℕ) → perms_of (areas_of segments []) page ≡ perms_of_loads segments None page)
 
 -- A process begins with each page that a load meets, as above, with the pages of the stack to read and to write, and
 -- with no other page.
 abbrev pub ImageMapsLoadsAndStack : Type 0
-ImageMapsLoadsAndStack = (segments : List Segment) → AllByRecursion IsBoundedSegment segments → IsCanonical (image_areas_of segments) × ((page : ℕ) → perms_of (image_areas_of segments) page ≡ in_range stack_page stack_pages page (Some read_write) (perms_of_loads segments None page))
+ImageMapsLoadsAndStack =
+    (segments : List Segment) → AllByRecursion IsBoundedSegment segments
+    → IsCanonical (image_areas_of segments)
+    × ((page : ℕ) → perms_of (image_areas_of segments) page ≡ in_range stack_page stack_pages page (Some read_write) (perms_of_loads segments None page))
 
 -- It begins with few runs: each begins where a load or the stack begins or ends.
 abbrev pub ImageHasFewRuns : Type 0
-ImageHasFewRuns = (segments : List Segment) → AllByRecursion IsBoundedSegment segments → length (image_areas_of segments) ≤ length segments + length segments + 2
+ImageHasFewRuns =
+    (segments : List Segment) → AllByRecursion IsBoundedSegment segments
+    → length (image_areas_of segments) ≤ length segments + length segments + 2

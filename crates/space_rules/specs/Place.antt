@@ -31,4 +31,6 @@ pub record IsLowestPlace (areas : List Area) (len at : ℕ) : Type 0 where
 
 -- The place is the lowest one; where there is none, no address is one.
 abbrev pub PlaceIsLowest : Type 0
-PlaceIsLowest = (areas : List Area) (len : ℕ) → IsCanonical areas → MatchOption (place_of areas len) ((at : ℕ) → IsPlace areas len at → ⊥) (IsLowestPlace areas len)
+PlaceIsLowest =
+    (areas : List Area) (len : ℕ) → IsCanonical areas
+    → MatchOption (place_of areas len) ((at : ℕ) → IsPlace areas len at → ⊥) (IsLowestPlace areas len)

@@ -23,4 +23,6 @@ pub record TellsAll (args env : List (List ℕ)) (entry sp : ℕ) (bytes : List 
   pub auxiliary : (i : ℕ) → i < 6 → word_at bytes (3 + length args + length env + i) ≡ slice_index (auxiliary_vector entry) i
 
 abbrev pub StackTellsAll : Type 0
-StackTellsAll = (args env : List (List ℕ)) (entry : ℕ) → is_too_big args env ≡ false → entry < 2 ^ 64 → TellsAll args env entry (sp_of args env) (stack_bytes args env entry)
+StackTellsAll =
+    (args env : List (List ℕ)) (entry : ℕ)
+    → is_too_big args env ≡ false → entry < 2 ^ 64 → TellsAll args env entry (sp_of args env) (stack_bytes args env entry)
