@@ -7,8 +7,8 @@ use Rattle.rv64_decode.specs.declared.Instr.{Instr}
 use Rattle.rv64_decode.specs.declared.Op.{Op}
 use Rattle.rv64_decode.specs.declared.Op.TheVariants.{Lui, Auipc, Jal}
 use Rattle.rv64_decode.specs.Encoding.{field, immediate}
-use Rattle.rv64_decode.specs.Table.{Fixed, nothing, funct3, funct6, funct7, others, Row, table, row_of, decoded, with_registers, format_of, of_word, indirect_jumps, branches, loads, stores, constants, shifts, registers, word_constants, word_shifts, word_registers, fences, systems}
-use Rattle.rv64_decode.specs.Leaves.{funct3_of, upper_of, op_by_funct3, op_by_both, op_by_others}
+use Rattle.rv64_decode.specs.Table.{Fixed, nothing, funct3, funct6, funct7, others, Row, table, row_of, decoded, with_registers, indirect_jumps, branches, loads, stores, constants, shifts, registers, word_constants, word_shifts, word_registers, fences, systems}
+use Rattle.rv64_decode.specs.Leaves.{funct3_of, upper_of, op_by_funct3, op_by_both, op_by_others, format_of, of_word}
 
 -- `fits`, in the numbers that it takes from a word
 abbrev pub has_at : ℕ → ℕ → ℕ → ℕ → Fixed → Bool

@@ -1,6 +1,6 @@
 -- The fields of a 32-bit instruction and its immediates, as the RISC-V manual, volume I, draws them in
 -- "Base Instruction Formats" and "Immediate Encoding Variants".
-use Rattle.std.specs.Prelude.{ℕ, ℤ, ◌+◌, ◌-◌, ◌*◌, ◌/◌, ◌%◌, ◌^◌, ◌==◌, ◌||◌, Bool, if◌then◌else◌, nat_lt, pos, ◌-ℤ◌}
+use Rattle.std.specs.Prelude.{ℕ, ℤ, ◌+◌, ◌-◌, ◌*◌, ◌/◌, ◌%◌, ◌^◌, if◌then◌else◌, nat_lt, pos, ◌-ℤ◌}
 use Rattle.rv64_decode.specs.declared.encoding.Format.{Format}
 use Rattle.rv64_decode.specs.declared.encoding.Format.TheVariants.{RType, IType, SType, BType, UType, JType, Shift, ShiftWord}
 
@@ -11,10 +11,6 @@ field from width word = word / 2 ^ from % 2 ^ width
 -- a number of `width` bits in two's complement
 abbrev pub sign_extended : ℕ → ℕ → ℤ
 sign_extended width n = if nat_lt n (2 ^ (width - 1)) then pos n else (pos n -ℤ pos (2 ^ width))
-
--- where the topmost part of an immediate may begin, which has its sign
-abbrev pub is_top : ℕ → Bool
-is_top from = from == 12 || from == 20 || from == 25 || from == 31
 
 -- the immediate of a word: each of its parts at its place, the sign in bit 31;
 -- 0 where the format has none, and the amount where it is a shift's

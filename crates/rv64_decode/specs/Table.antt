@@ -1,4 +1,4 @@
--- The instruction table of RV64IM, one line an instruction, to be laid beside the chapter "RV32/64G
+-- The instruction table of RV64IM, one line an instruction, to be compared with the chapter "RV32/64G
 -- Instruction Set Listings" of the RISC-V manual, volume I. Opcodes and funct7 are hexadecimal.
 use Rattle.std.specs.Prelude.{ℕ, ℤ, ◌+◌, ◌*◌, ◌^◌, ◌==◌, ◌&&◌, Bool, true, List, [], ◌∷◌, ◌++◌, Option, find}
 use Rattle.std.specs.Option.{option_map}
@@ -176,48 +176,6 @@ row_of word = find (fits word) table
 -- an instruction with the registers of a word, which are its bits 11..7, 19..15 and 24..20 in every format
 abbrev pub with_registers : ℕ → Op → ℤ → Instr
 with_registers word op imm = record { op = op; rd = field 7 5 word; rs1 = field 15 5 word; rs2 = field 20 5 word; imm = imm }
-
--- the format of an operation's row
-abbrev pub format_of : Op → Format
-format_of Lui = UType
-format_of Auipc = UType
-format_of Jal = JType
-format_of Jalr = IType
-format_of Beq = BType
-format_of Bne = BType
-format_of Blt = BType
-format_of Bge = BType
-format_of Bltu = BType
-format_of Bgeu = BType
-format_of Lb = IType
-format_of Lh = IType
-format_of Lw = IType
-format_of Ld = IType
-format_of Lbu = IType
-format_of Lhu = IType
-format_of Lwu = IType
-format_of Sb = SType
-format_of Sh = SType
-format_of Sw = SType
-format_of Sd = SType
-format_of Addi = IType
-format_of Slti = IType
-format_of Sltiu = IType
-format_of Xori = IType
-format_of Ori = IType
-format_of Andi = IType
-format_of Slli = Shift
-format_of Srli = Shift
-format_of Srai = Shift
-format_of Addiw = IType
-format_of Slliw = ShiftWord
-format_of Srliw = ShiftWord
-format_of Sraiw = ShiftWord
-format_of _ = RType
-
--- an operation with the registers and the immediate of a word
-abbrev pub of_word : ℕ → Op → Instr
-of_word word op = with_registers word op (immediate (format_of op) word)
 
 -- the instruction of a word: none where no row has it
 unfoldable pub decoded : ℕ → Option Instr

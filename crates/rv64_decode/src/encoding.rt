@@ -1,7 +1,7 @@
 //! How an instruction lies in its word: fields, formats and immediates.
 ghost use Rattle.std.specs.Prelude.{◌≡◌, ◌<◌, ◌≤◌, ◌+◌, ◌-◌, ◌^◌, IsTrue};
-ghost use Rattle.rv64_decode.specs.Encoding.{field, sign_extended, immediate, is_top};
-ghost use Rattle.rv64_decode.specs.Table.{format_of};
+ghost use Rattle.rv64_decode.specs.Encoding.{field, sign_extended, immediate};
+ghost use Rattle.rv64_decode.specs.Leaves.{format_of, is_top};
 
 use crate::Op;
 

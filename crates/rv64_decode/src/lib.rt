@@ -8,7 +8,8 @@
 
 ghost use Rattle.std.specs.Prelude.{◌≡◌, IfSome};
 ghost use Rattle.std.specs.Option.{option_map};
-ghost use Rattle.rv64_decode.specs.Table.{decoded, of_word};
+ghost use Rattle.rv64_decode.specs.Leaves.{of_word};
+ghost use Rattle.rv64_decode.specs.Table.{decoded};
 ghost use Rattle.rv64_decode.specs.Laws.{NoTwoShare, RowsDecode, OthersAreNone, FitsByMask, MatchesLieUnderMasks, ImmediatesInRange, HasRegisters};
 
 mod encoding;

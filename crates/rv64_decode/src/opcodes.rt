@@ -1,4 +1,5 @@
-//! The operations of each opcode, by the fields that tell them apart. Each is compiled into its caller, where what is
+//! The operations of each opcode by the fields that tell them apart, one function an opcode, as the chapter "RV32/64G
+//! Instruction Set Listings" of the RISC-V manual, volume I, lists them. Each is compiled into its caller, where what is
 //! done with an operation can follow the test that finds it.
 ghost use Rattle.std.specs.Prelude.{◌≡◌};
 ghost use Rattle.rv64_decode.specs.Table.{branches, loads, stores, constants, shifts, registers, word_constants, word_shifts, word_registers, fences, systems, indirect_jumps};

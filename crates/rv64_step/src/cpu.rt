@@ -3,7 +3,7 @@ ghost use Rattle.lego_base.specs.declared.stops.MemStop.{MemStop};
 ghost use Rattle.std.specs.Int.{cast_unsigned, w64};
 ghost use Rattle.rv64_decode.specs.declared.encoding.Format.TheVariants.{BType, IType, Shift, ShiftWord};
 ghost use Rattle.rv64_decode.specs.Encoding.{field, immediate};
-ghost use Rattle.rv64_decode.specs.Table.{of_word};
+ghost use Rattle.rv64_decode.specs.Leaves.{of_word};
 ghost use Rattle.rv64_step.specs.Word.{plus};
 ghost use Rattle.rv64_step.specs.Access.{Fetched, Loaded, Stored};
 ghost use Rattle.rv64_step.specs.Meaning.{reg, sets, links, branches, asks, stopped, Ends, Does, IsStep};
