@@ -1,24 +1,19 @@
 -- Reads of the bytes of a space.
-use Rattle.std.proofs.Common.{◌≡◌, ℕ, zero, suc, ◌+◌, ◌-◌, ◌*◌, ◌/◌, ◌%◌, ◌^◌, ◌≤◌, ◌<◌, List, ◌∷◌, ◌++◌, length, get_or, take, drop, Bool, true, false, eqb, ◌&&◌, IsTrue, Option, Some, None, inl, inr, refl, sym, ◌∙◌, ap, arith, lit<}
-use Rattle.std.proofs.lemmas.Bool.{cases_lt, false≢true}
+use Rattle.std.proofs.Common.{◌≡◌, ℕ, zero, suc, ◌+◌, ◌-◌, ◌*◌, ◌/◌, ◌%◌, ◌^◌, ◌≤◌, ◌<◌, List, [], ◌∷◌, leb, ltb, cond, Some, subst, ◌++◌, length, get_or, take, drop, Bool, true, false, ◌&&◌, refl, sym, ◌∙◌, ap, arith, lit<}
+use Rattle.std.proofs.lemmas.Bool.{true≢false, false≢true, and_parts, ltb-true}
 use Rattle.std.proofs.lemmas.List.{drop_more}
 use Rattle.std.proofs.Math.Nat.{pow-suc, pow-le-pow_right}
-use Rattle.lego_base.specs.declared.perms.Perms.{Perms}
 use Rattle.lego_base.specs.declared.records.Area.{Area}
-use Rattle.lego_base.specs.Space.{Space, perms_of, allows, permits, bytes_at, number_of}
-use Rattle.rv64_step.specs.Access.{is_width}
-use Rattle.flat_memory.specs.Frames.{bits_of, place_in, byte_in, IsSpace, window}
-use Rattle.flat_memory.specs.Quick.{permits_by}
+use Rattle.lego_base.specs.Space.{Space, has_page, perms_of, allows, permits, bytes_at, number_of}
+use Rattle.rv64_step.specs.declared.width.Width.{Width}
+use Rattle.rv64_step.specs.declared.width.Width.TheVariants.{Byte, Half, Word, Double}
+use Rattle.rv64_step.specs.Access.{bytes_in}
+use Rattle.area_list.specs.Runs.{IsCanonical}
+use Rattle.flat_memory.specs.declared.slot.Use.{Use}
+use Rattle.flat_memory.specs.Pieces.{place_in, byte_in, window, IsPieces}
+use Rattle.flat_memory.specs.FastPath.{needed, IsPlace}
 
 -- ---- permissions
--- what an entry permits
-pub allows-bits : (perms : Option Perms) (need : ℕ) → 0 < need → allows perms need ≡ eqb (bits_of perms / need % 2) 1
-allows-bits None need h = let z : 0 / need ≡ 0 = omega arith in sym (ap (λ k. eqb (k % 2) 1) z)
-allows-bits (Some perms) need h = refl
-
-pub allows-entry : (entry : ℕ → ℕ) (areas : List Area) (bytes : List ℕ) → IsSpace entry areas bytes → (page need : ℕ) → 0 < need → allows (perms_of areas page) need ≡ permits_by (entry page) need
-allows-entry entry areas bytes s page need h = allows-bits (perms_of areas page) need h ∙ sym (ap (λ k. eqb (k / need % 2) 1) (s.perms page))
-
 and-self : (x y : Bool) → (x && (x && y)) ≡ (x && y)
 and-self true y = refl
 and-self false y = refl
@@ -26,6 +21,10 @@ and-self false y = refl
 and-yes : (x : Bool) → (x && true) ≡ x
 and-yes true = refl
 and-yes false = refl
+
+and-no : (x y : Bool) → x ≡ false → (x && y) ≡ false
+and-no true y e = absurd (true≢false e)
+and-no false y e = refl
 
 -- the first bytes of some are permitted where their page permits them, if they lie in one page
 pub permits-page : (space : Space) (need address m n k : ℕ) → suc m + n ≡ k → address % 4096 + suc m ≤ 4096 → permits space need address k ≡ (allows (perms_of space.areas (address / 4096)) need && permits space need (address + suc m) n)
@@ -47,22 +46,39 @@ pub permits-within : (space : Space) (need address n : ℕ) → 0 < n → addres
 permits-within space need address zero p h = absurd (omega arith)
 permits-within space need address (suc n) p h = permits-page space need address n 0 (suc n) (omega arith) h ∙ and-yes (allows (perms_of space.areas (address / 4096)) need)
 
--- some bytes are permitted where those behind the first ones are, if these are
+-- some bytes are permitted where those after the first ones are, if these are
 pub permits-room : (space : Space) (need address room left : ℕ) → 0 < room → room ≤ left → address % 4096 + room ≤ 4096 → allows (perms_of space.areas (address / 4096)) need ≡ true → permits space need (address + room) (left - room) ≡ permits space need address left
 permits-room space need address zero left p f h ok = absurd (omega arith)
 permits-room space need address (suc m) left p f h ok = sym (permits-page space need address m (left - suc m) left (omega arith) h ∙ ap (λ b. b && permits space need (address + suc m) (left - suc m)) ok)
 
+-- bytes are refused where the page of the first is
+pub permits-first : (space : Space) (need address n : ℕ) → 0 < n → allows (perms_of space.areas (address / 4096)) need ≡ false → permits space need address n ≡ false
+permits-first space need address zero p refused = absurd (omega arith)
+permits-first space need address (suc n) p refused = and-no (allows (perms_of space.areas (address / 4096)) need) (permits space need (address + 1) n) refused
+
+-- canonical runs permit nothing past the end of the addresses
+pub permits-end : (runs : List Area) (page need : ℕ) → IsCanonical runs → allows (perms_of runs page) need ≡ true → page < 2 ^ 26
+permits-end [] page need c h = absurd (false≢true h)
+permits-end (area ∷ runs) page need c h = by_area (has_page area page) refl (permits-end runs page need c.3)
+  where
+    by_area : (b : Bool) → has_page area page ≡ b → (allows (perms_of runs page) need ≡ true → page < 2 ^ 26) → page < 2 ^ 26
+    by_area true e rest =
+        let below : page < area.first.0 + area.pages = ltb-true page (area.first.0 + area.pages) (and_parts (leb area.first.0 page) (ltb page (area.first.0 + area.pages)) e).1 in
+        let end : area.first.0 + area.pages ≤ 2 ^ 26 = c.1 in
+        omega arith
+    by_area false e rest = rest (subst (λ b. allows (cond b (Some area.perms) (perms_of runs page)) need ≡ true) e h)
+
 -- ---- bytes
 -- bytes of one page are next to each other
-pub bytes-within : (entry : ℕ → ℕ) (areas : List Area) (bytes : List ℕ) (address n : ℕ) → address % 4096 + n ≤ 4096 → bytes_at (record { areas = areas; byte = byte_in entry bytes }) address n ≡ window bytes (place_in entry address) n
+pub bytes-within : (start : ℕ → ℕ) (areas : List Area) (bytes : List ℕ) (address n : ℕ) → address % 4096 + n ≤ 4096 → bytes_at (record { areas = areas; byte = byte_in start bytes }) address n ≡ window bytes (place_in start address) n
 unfolding byte_in
-bytes-within entry areas bytes address zero h = refl
-bytes-within entry areas bytes address (suc zero) h = refl
-bytes-within entry areas bytes address (suc (suc n)) h =
+bytes-within start areas bytes address zero h = refl
+bytes-within start areas bytes address (suc zero) h = refl
+bytes-within start areas bytes address (suc (suc n)) h =
     let page : (address + 1) / 4096 ≡ address / 4096 = omega arith in
-    let start : entry ((address + 1) / 4096) / 4096 ≡ entry (address / 4096) / 4096 = ap (λ k. entry k / 4096) page in
-    let place : place_in entry (address + 1) ≡ place_in entry address + 1 = omega arith in
-    ap (λ xs. get_or bytes (place_in entry address) 0 ∷ xs) (bytes-within entry areas bytes (address + 1) (suc n) (omega arith) ∙ ap (λ k. window bytes k (suc n)) place)
+    let same : start ((address + 1) / 4096) ≡ start (address / 4096) = ap start page in
+    let place : place_in start (address + 1) ≡ place_in start address + 1 = omega arith in
+    ap (λ xs. get_or bytes (place_in start address) 0 ∷ xs) (bytes-within start areas bytes (address + 1) (suc n) (omega arith) ∙ ap (λ k. window bytes k (suc n)) place)
 
 -- a window as a part of the list
 pub window-part : (bytes : List ℕ) (at n : ℕ) → at + n ≤ length bytes → window bytes at n ≡ take n (drop at bytes)
@@ -80,15 +96,11 @@ bytes_at-append space address (suc m) n =
     ∙ ap (λ xs. space.byte address ∷ xs) (bytes_at-append space (address + 1) m n ∙ ap (λ k. bytes_at space (address + 1) m ++ bytes_at space k n) b)
 
 -- ---- numbers
-pub width-some : (n : ℕ) → IsTrue (is_width n) → (0 < n) × (n ≤ 8)
-width-some zero h = absurd (false≢true h)
-width-some (suc n) h = elim (cases_lt 8 (suc n)) [
-  | inl more ↦ absurd (wide (suc n) more h)
-  | inr less ↦ (omega arith, less)
-]
-  where
-    wide : (k : ℕ) → 8 < k → IsTrue (is_width k) → ⊥
-    wide k more h = grind arith
+pub width-some : (width : Width) → (0 < bytes_in width) × (bytes_in width ≤ 8)
+width-some Byte = (omega arith, omega arith)
+width-some Half = (omega arith, omega arith)
+width-some Word = (omega arith, omega arith)
+width-some Double = (omega arith, omega arith)
 
 -- one byte more in front
 pub number-more : (space : Space) (a b m r value byte : ℕ) → m ≡ suc r → a + 1 ≡ b → value ≡ number_of (bytes_at space b r) → byte ≡ space.byte a → value * 256 + byte ≡ number_of (bytes_at space a m)
@@ -109,3 +121,16 @@ word-fits value byte n h b small =
     let few : suc n ≤ 8 = omega arith in
     let most : 256 ^ suc n ≤ 256 ^ 8 = pow-le-pow_right some few in
     omega arith
+
+-- ---- a place where bytes of one page are
+module _ (areas : List Area) (start : ℕ → ℕ) (bytes : List ℕ) (access : Use) (address at : ℕ) (width : Width) (p : IsPlace areas start access address (bytes_in width) at) where
+  pub place-ends : IsPieces start bytes → at + bytes_in width ≤ length bytes
+  place-ends s = let e : start (address / 4096) + 4096 ≤ length bytes = s.ends (address / 4096) in let a : at ≡ start (address / 4096) + address % 4096 = p.place in let i : address % 4096 + bytes_in width ≤ 4096 = p.within in omega arith
+
+  pub place-permits : permits (record { areas = areas; byte = byte_in start bytes }) (needed access) address (bytes_in width) ≡ true
+  place-permits = permits-within (record { areas = areas; byte = byte_in start bytes }) (needed access) address (bytes_in width) (width-some width).0 p.within ∙ p.permits
+
+  pub place-number : number_of (window bytes at (bytes_in width)) ≡ number_of (bytes_at (record { areas = areas; byte = byte_in start bytes }) address (bytes_in width))
+  place-number =
+      ap (λ n. number_of (window bytes n (bytes_in width))) p.place
+      ∙ ap number_of (sym (bytes-within start areas bytes address (bytes_in width) p.within))

@@ -1,35 +1,28 @@
 -- Worked rows.
-use Rattle.std.proofs.Common.{◌≡◌, [], ◌∷◌, true, false, refl}
-use Rattle.flat_memory.specs.Table.{entry_in}
-use Rattle.flat_memory.specs.Frames.{place_in, window}
-use Rattle.flat_memory.specs.Quick.{permits_by, slot_of}
+use Rattle.std.proofs.Common.{◌≡◌, [], ◌∷◌, Some, None, refl}
+use Rattle.lego_base.specs.declared.perms.Perms.{Perms}
+use Rattle.flat_memory.specs.Pieces.{place_in, window}
+use Rattle.flat_memory.specs.FastPath.{slot_of}
 
--- the second region's entries begin at place 3: page 4097 has the one behind it
-second_region : entry_in (0 ∷ 3 ∷ []) (0 ∷ 0 ∷ 0 ∷ 7 ∷ 8195 ∷ []) 4097 ≡ 8195
-unfolding entry_in
-second_region = refl
+-- permissions to read and to write
+abbrev readable : Perms
+readable = record { 0 = 3 }
 
--- a page in piece 2 that may be read and written
-readable : permits_by 8195 1 ≡ true
-readable = refl
-
-writable : permits_by 8195 2 ≡ true
-writable = refl
-
-not_executable : permits_by 8195 4 ≡ false
-not_executable = refl
-
-place : place_in (λ page. 8195) 0x10ff8 ≡ 0x2ff8
+-- an address of page 16, whose bytes begin at 0x2000
+place : place_in (λ page. 0x2000) 0x10ff8 ≡ 0x2ff8
 place = refl
 
--- its slot as page 16: the begin of the page to load and to store, no page to fetch, and what leads from there to
--- piece 2
-slot : slot_of 16 8195 ≡ 0x10000 ∷ 0x10000 ∷ 18446744073709551615 ∷ 18446744073709494272 ∷ []
+-- its slot: the begin of the page to load and to store, no page to fetch, and what leads from there to its bytes
+slot : slot_of 16 (Some readable) 0x2000 ≡ record { load = 0x10000; store = 0x10000; fetch = 18446744073709551615; shift = 18446744073709494272 }
 slot = refl
 
 -- a page that shares the zeros isn't stored to
-shared : slot_of 16 3 ≡ 0x10000 ∷ 18446744073709551615 ∷ 18446744073709551615 ∷ 18446744073709486080 ∷ []
+shared : slot_of 16 (Some readable) 0 ≡ record { load = 0x10000; store = 18446744073709551615; fetch = 18446744073709551615; shift = 18446744073709486080 }
 shared = refl
+
+-- a page that isn't mapped is found for no use
+unmapped : slot_of 16 None 0 ≡ record { load = 18446744073709551615; store = 18446744073709551615; fetch = 18446744073709551615; shift = 18446744073709486080 }
+unmapped = refl
 
 three_bytes : window (1 ∷ 2 ∷ 3 ∷ 4 ∷ []) 1 4 ≡ 2 ∷ 3 ∷ 4 ∷ 0 ∷ []
 three_bytes = refl

@@ -1,12 +1,11 @@
 -- Writes of bytes.
-use Rattle.std.proofs.Common.{◌≡◌, ℕ, zero, suc, ◌+◌, ◌-◌, ◌/◌, ◌≤◌, ◌<◌, List, ◌++◌, length, get_or, take, drop, cond, leb, ltb, ◌&&◌, inl, inr, refl, sym, ◌∙◌, ap, arith, subst}
+use Rattle.std.proofs.Common.{◌≡◌, ℕ, zero, suc, ◌+◌, ◌/◌, ◌≤◌, List, ◌++◌, length, take, drop, refl, sym, ◌∙◌, ap, arith, subst}
 use Rattle.std.specs.Int.{w64, to_le_bytes}
-use Rattle.std.proofs.lemmas.Bool.{cases_lt, cond-true, cond-false, le-leb, lt-leb, lt-ltb, le-ltb, and_from, and_left, and_right}
-use Rattle.std.proofs.lemmas.List.{places, length-append, length-take-le, take-take, take-append-drop, drop-take, get_or_append_left, get_or-append_right}
+use Rattle.std.proofs.lemmas.List.{places, length-take-le, take-take, take-append-drop, drop-take}
 use borrow.Rule.Slice.PartMut.{put_mid}
 use Rattle.lego_base.specs.Space.{Space, with_bytes, bytes_of}
 use Rattle.rv64_step.proofs.Writes.{with_bytes-append}
-use Rattle.flat_memory.specs.Frames.{Written}
+use Rattle.flat_memory.specs.Pieces.{Written}
 
 -- what a write to a part leaves
 pub written-mid : (xs : List ℕ) (at k : ℕ) (ys : List ℕ) → at + k ≤ length xs → length ys ≡ k → Written xs at ys (put_mid at k xs ys)
@@ -45,7 +44,7 @@ written-part xs at len m k value ys h l j y =
     let e : ys ≡ bytes_of len value = y ∙ ap (λ q. bytes_of q value) (sym l) in
     subst (λ zs. Written xs at (bytes_of len value) (put_mid at k xs zs)) (sym e) (written-mid xs at k (bytes_of len value) (omega arith) n)
 
--- the next bytes of a list behind its first ones
+-- the next bytes of a list after its first ones
 pub fill-more : (space : Space) (address done more : ℕ) (bytes : List ℕ) → done ≤ length bytes → with_bytes (with_bytes space address (take done bytes)) (address + done) (take more (drop done bytes)) ≡ with_bytes space address (take (done + more) bytes)
 fill-more space address done more bytes h =
     let n : length (take done bytes) ≡ done = length-take-le done bytes h in

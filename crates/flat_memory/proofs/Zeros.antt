@@ -11,7 +11,7 @@ get_or-zeros (suc n) (suc k) = get_or-zeros n k
 pub all_zero : (xs : List ℕ) (n : ℕ) → xs ≡ replicate n 0 → (k : ℕ) → get_or xs k 0 ≡ 0
 all_zero xs n e k = ap (λ ys. get_or ys k 0) e ∙ get_or-zeros n k
 
--- zeros behind a list change nothing
+-- zeros after a list change nothing
 pub get_or-append_zeros : (xs : List ℕ) (n k : ℕ) → get_or (xs ++ replicate n 0) k 0 ≡ get_or xs k 0
 get_or-append_zeros [] n k = get_or-zeros n k
 get_or-append_zeros (x ∷ xs) n zero = refl

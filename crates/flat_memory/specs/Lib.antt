@@ -1,6 +1,4 @@
-pub mod Table
-pub mod Entries
-pub mod Frames
-pub mod Quick
+pub mod Pieces
+pub mod FastPath
 pub mod Spaces
 pub mod Access

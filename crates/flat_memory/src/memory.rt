@@ -1,18 +1,19 @@
-ghost use Rattle.std.specs.Prelude.{◌≡◌, MatchOption, ◌+◌, ◌<◌, ◌≤◌, ◌^◌, length, vec_len, OnOk, IfOk, true, false, Result, Ok, Err};
+//! The address spaces of guest processes, by pid.
+ghost use Rattle.std.specs.Prelude.{◌≡◌, MatchOption, ◌+◌, ◌≤◌, ◌^◌, ℕ, length, vec_len, OnOk, IfOk};
 ghost use Rattle.lego_base.specs.Space.{no_space};
 ghost use Rattle.flat_memory.specs.Access.{Copied, CopiedTo};
 
 use crate::space::FlatSpace;
+use crate::turn::TurnSpace;
 use area_list::Areas;
-use lego_base::{Bytes, Halt, MemStop, NoMemory, Pid};
-use rv64_step::GuestMem;
+use lego_base::{Bytes, MemStop, NoMemory, Pid};
 use std::alloc::Global;
 
 /// The address spaces of guest processes, by pid. Nothing is mapped for a pid that wasn't named in `create`.
 #[derive(Debug, Drop)]
 pub struct FlatMemory {
     alloc: Global,
-    spaces: Vec<FlatSpace>, // by pid
+    spaces: Vec<Option<FlatSpace>>, // by pid
 }
 
 impl FlatMemory {
@@ -34,13 +35,7 @@ impl FlatMemory {
         ensures { OnOk result (spaces_of self.new ≡ with_space (spaces_of self.old) pid.0 (record { areas = areas; byte = λ a. 0 })) }
     {
         let space = FlatSpace::new(self.alloc, areas)?;
-        self.grow(pid.0 as usize)?;
-        if pid.0 as usize == self.spaces.len() {
-            self.spaces.push(space)?;
-            return Ok(());
-        }
-        self.spaces[pid.0 as usize] = space;
-        Ok(())
+        self.set(pid, space)
     }
 
     /// Writes bytes at an address below 2^38, whatever its page permits.
@@ -48,9 +43,9 @@ impl FlatMemory {
         requires { addr + length bytes.now ≤ 2 ^ 38 }
         ensures { OnOk result (spaces_of self.new ≡ with_space (spaces_of self.old) pid.0 (with_bytes (spaces_of self.old pid.0) addr bytes.now)) }
     {
-        self.grow(pid.0 as usize + 1)?;
-        let space = &mut self.spaces[pid.0 as usize];
-        space.fill(addr, bytes)
+        let mut space = self.remove(pid)?;
+        space.fill(addr, bytes)?;
+        self.set(pid, space)
     }
 
     /// A copy of the `len` bytes at an address, where each of them may be read.
@@ -74,30 +69,70 @@ impl FlatMemory {
         if index >= self.spaces.len() {
             return Err(MemStop::Segv);
         }
-        let space = &mut self.spaces[index];
-        match space.copy_out(addr, bytes) {
-            Ok(()) => Ok(()),
-            Err(stop) => Err(stop),
+        match &mut self.spaces[index] {
+            Some(space) => space.copy_out(addr, bytes),
+            None => Err(MemStop::Segv),
         }
     }
 
+    /// Takes the space of a process out of the memory for a turn. Until it is put back, nothing is mapped for it here.
+    pub fn take(&mut self, pid: Pid) -> Result<TurnSpace, NoMemory>
+        ensures taken { IfOk result (λ turn. (turn.pid ≡ pid) × (space_of turn.space ≡ spaces_of self.old pid.0)) }
+        ensures others { (q : ℕ) → (q ≡ pid.0 → ⊥) → spaces_of self.new q ≡ spaces_of self.old q }
+    {
+        let space = self.remove(pid)?;
+        Ok(TurnSpace::new(pid, space))
+    }
+
+    /// Puts the space of a process back after its turn.
+    pub fn put(&mut self, turn: TurnSpace) -> Result<(), NoMemory>
+        ensures put { OnOk result (spaces_of self.new ≡ with_space (spaces_of self.old) turn.pid.0 (space_of turn.space)) }
+        ensures others { (q : ℕ) → (q ≡ turn.pid.0 → ⊥) → spaces_of self.new q ≡ spaces_of self.old q }
+    {
+        let TurnSpace { pid, space, .. } = turn;
+        self.set(pid, space)
+    }
+
     // The space of a pid.
-    #[inline(always)]
     fn space(&self, pid: Pid) -> Option<&FlatSpace>
         ensures { MatchOption result (spaces_of self.now pid.0 ≡ no_space) (λ space. spaces_of self.now pid.0 ≡ space_of space.now) }
     {
-        self.spaces.get(pid.0 as usize)
+        let index = pid.0 as usize;
+        if index >= self.spaces.len() {
+            return None;
+        }
+        self.spaces[index].as_ref()
     }
 
-    // Makes so many spaces at least: nothing is mapped in those that weren't there.
+    // Takes the space of a pid out: an empty one where there is none.
+    fn remove(&mut self, pid: Pid) -> Result<FlatSpace, NoMemory>
+        ensures removed { IfOk result (λ space. space_of space ≡ spaces_of self.old pid.0) }
+        ensures others { (q : ℕ) → (q ≡ pid.0 → ⊥) → spaces_of self.new q ≡ spaces_of self.old q }
+    {
+        self.grow(pid.0 as usize + 1)?;
+        match self.spaces[pid.0 as usize].take() {
+            Some(space) => Ok(space),
+            None => FlatSpace::new(self.alloc, Areas::new(self.alloc)?),
+        }
+    }
+
+    // Makes this the space of a pid.
+    fn set(&mut self, pid: Pid, space: FlatSpace) -> Result<(), NoMemory>
+        ensures set { OnOk result (spaces_of self.new ≡ with_space (spaces_of self.old) pid.0 (space_of space)) }
+        ensures others { (q : ℕ) → (q ≡ pid.0 → ⊥) → spaces_of self.new q ≡ spaces_of self.old q }
+    {
+        self.grow(pid.0 as usize + 1)?;
+        self.spaces[pid.0 as usize] = Some(space);
+        Ok(())
+    }
+
+    // Makes room for `count` spaces at least: there is none where there was no room.
     fn grow(&mut self, count: usize) -> Result<(), NoMemory>
         ensures spaces { spaces_of self.new ≡ spaces_of self.old }
         ensures room { OnOk result (count ≤ vec_len self.new.spaces) }
     {
         while self.spaces.len() < count {
-            let areas = Areas::new(self.alloc)?;
-            let space = FlatSpace::new(self.alloc, areas)?;
-            self.spaces.push(space)?;
+            self.spaces.push(None)?;
         }
         Ok(())
     }
@@ -110,49 +145,5 @@ fn no_bytes(alloc: Global, len: u64) -> Result<Bytes, MemStop>
     if len > 0 {
         return Err(MemStop::Segv);
     }
-    match Bytes::with_room(alloc, 0) {
-        Ok(bytes) => Ok(bytes),
-        Err(_) => Err(MemStop::Halt(Halt::NoMemory)),
-    }
-}
-
-impl GuestMem for FlatMemory {
-    ghost use Rattle.flat_memory.specs.Access.{NoHalt, OutOfMemory};
-    ghost use Rattle.flat_memory.specs.Spaces.{spaces_of};
-
-    ghost serves = { λ m q. true };
-
-    ghost space = { λ m q. spaces_of m q };
-
-    ghost fetches = { λ m q a answer n. (n ≡ m) × NoHalt answer };
-
-    ghost loads = { λ m q a len answer n. (n ≡ m) × NoHalt answer };
-
-    ghost stores = { λ m q a len value answer n. ((r : _) → (r ≡ q → ⊥) → spaces_of n r ≡ spaces_of m r) × OutOfMemory answer };
-
-    #[inline(always)]
-    fn load(&mut self, pid: Pid, addr: u64, len: u8) -> Result<u64, MemStop> {
-        let Some(space) = self.space(pid) else {
-            return Err(MemStop::Segv);
-        };
-        space.load(addr, len)
-    }
-
-    #[inline(always)]
-    fn store(&mut self, pid: Pid, addr: u64, len: u8, value: u64) -> Result<(), MemStop> {
-        let index = pid.0 as usize;
-        if index >= self.spaces.len() {
-            return Err(MemStop::Segv);
-        }
-        let space = &mut self.spaces[index];
-        space.store(addr, len, value)
-    }
-
-    #[inline(always)]
-    fn fetch(&mut self, pid: Pid, addr: u64) -> Result<u32, MemStop> {
-        let Some(space) = self.space(pid) else {
-            return Err(MemStop::Segv);
-        };
-        space.fetch(addr)
-    }
+    Ok(Bytes::with_room(alloc, 0)?)
 }

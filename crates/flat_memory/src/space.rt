@@ -1,111 +1,144 @@
-ghost use Rattle.std.specs.Prelude.{◌≡◌, ◌==◌, ℕ, ◌+◌, ◌-◌, ◌*◌, ◌/◌, ◌%◌, ◌^◌, ◌<◌, ◌≤◌, ◌&&◌, nat_le, nat_lt, length, vec_len, slice_index, if◌then◌else◌, OnOk, IfOk, IsTrue};
-ghost use Rattle.lego_base.specs.Space.{has_page, perms_of};
-ghost use Rattle.area_list.specs.Runs.{IsCanonical};
-ghost use Rattle.flat_memory.specs.Frames.{bits_of, IsSpace};
-ghost use Rattle.flat_memory.specs.Entries.{entry_of};
+//! The address space of one process.
+ghost use Rattle.std.specs.Prelude.{◌≡◌, ℕ, ◌+◌, ◌/◌, ◌%◌, ◌^◌, ◌<◌, ◌≤◌, length, slice_index_or, OnOk, OnErr, IfOk, IfSome, IsTrue, MatchBool, true};
+ghost use Rattle.lego_base.specs.Space.{perms_of, allows, number_of};
+ghost use Rattle.flat_memory.specs.Pieces.{start_in, byte_in, window, IsPieces};
+ghost use Rattle.flat_memory.specs.FastPath.{needed, IsFast};
 
-use crate::table::{self, Table};
+use crate::slot::{Slot, Use, permits};
 use crate::word;
 use area_list::Areas;
-use bitflags::Flags;
-use lego_base::{Area, Bytes, Halt, MemStop, NoMemory, PAGE_BYTES};
+use lego_base::{Bytes, MemStop, NoMemory, PAGE_BYTES, Vpn};
+use rv64_step::Width;
 use std::alloc::Global;
+use std::collections::HashMap;
 
 // The bytes of a page, as a length.
-const PAGE: usize = 4096;
+const PAGE: usize = PAGE_BYTES as usize;
+
+// Slots of the fast path: they serve 4 MiB next to each other. Pages that are a multiple of this apart share one.
+const SLOTS: u64 = 1024;
 
 /// The address space of one process.
 #[derive(Debug, Drop)]
 pub struct FlatSpace {
     areas: Areas,
-    table: Table, // by page, where its bytes begin in `bytes`, plus its permissions
+    starts: HashMap<u64, usize>, // by page, where its bytes begin in `bytes`, if it was written
     bytes: Vec<u8>, // in pieces of a page: the first is zeros, and isn't written
-    ghost ok: { IsSpace (entry_of table) areas bytes.items },
+    slots: Vec<Slot>, // by the page's number modulo `SLOTS`
+    ghost pieces: { IsPieces (start_in starts) bytes.items },
+    ghost fast: { IsFast areas (start_in starts) slots.items },
+}
+
+// The slot of an address's page.
+#[inline(always)]
+fn slot_index(addr: u64) -> usize
+    ensures { result ≡ addr / 4096 % 1024 }
+{
+    (addr / PAGE_BYTES % SLOTS) as usize
 }
 
 impl FlatSpace {
     ghost use Rattle.lego_base.specs.Space.{permits, bytes_at, with_bytes};
-    ghost use Rattle.rv64_step.specs.Access.{is_width, Reads, Writes, Changes};
-    ghost use Rattle.flat_memory.specs.Access.{Copied, CopiedOut, IsRead, IsWrite, NoHalt, OutOfMemory};
-    ghost use Rattle.flat_memory.specs.Quick.{is_need};
-    ghost use Rattle.flat_memory.specs.Spaces.{space_of};
+    ghost use Rattle.rv64_step.specs.Access.{bytes_in, to_load, to_store};
+    ghost use Rattle.flat_memory.specs.Access.{Copied, CopiedOut, IsRead, IsWrite};
+    ghost use Rattle.flat_memory.specs.FastPath.{IsSlot, IsPlace};
+    ghost use Rattle.flat_memory.specs.Spaces.{space_of, Keeps};
 
     /// A space with these areas, in which every byte is 0.
     pub fn new(alloc: Global, areas: Areas) -> Result<FlatSpace, NoMemory>
         ensures { IfOk result (λ s. space_of s ≡ record { areas = areas; byte = λ a. 0 }) }
     {
-        let mut table = Table::new(alloc)?;
-        map_runs(&mut table, areas.runs())?;
         let bytes = vec![in alloc; 0; PAGE]?;
+        let slots = vec![in alloc; Slot::NONE; SLOTS as usize]?;
         Ok(FlatSpace {
             areas,
-            table,
+            starts: HashMap::new(alloc),
             bytes,
+            slots,
         })
     }
 
-    /// The 32 bits at an address, where each of the four bytes may be fetched.
-    #[inline(always)]
-    pub fn fetch(&self, addr: u64) -> Result<u32, MemStop>
-        ensures reads { Reads (space_of self.now) 4 addr 4 result }
-        ensures halts { NoHalt result }
+    /// A copy of the slot in which an address's page may be.
+    pub fn slot(&self, addr: u64) -> Slot
+        ensures copy { result ≡ slice_index_or self.now.slots.items (addr / 4096 % 1024) result }
+        ensures holds { IsSlot self.now.areas (start_in self.now.starts) result }
     {
-        let word = match self.table.place(4, addr, 4) {
-            Some(at) => word::word(&self.bytes, at),
-            None => match self.read_slowly(4, addr, 4) {
-                Some(value) => value as u32,
-                None => return Err(MemStop::Segv),
-            },
-        };
-        Ok(word)
+        self.slots[slot_index(addr)]
     }
 
-    /// The number in `len` bytes (1, 2, 4 or 8) at an address, where each of them may be loaded.
+    /// The number in the four bytes at a place.
     #[inline(always)]
-    pub fn load(&self, addr: u64, len: u8) -> Result<u64, MemStop>
-        requires { IsTrue (is_width len) }
-        ensures reads { Reads (space_of self.now) 1 addr len result }
-        ensures halts { NoHalt result }
+    pub fn word_at(&self, at: usize) -> u32
+        requires { at + 4 ≤ length self.now.bytes.items }
+        ensures { result ≡ number_of (window self.now.bytes.items at 4) }
     {
-        match self.table.place(1, addr, len) {
-            Some(at) => Ok(word::number(&self.bytes, at, len)),
-            None => match self.read_slowly(1, addr, len) {
-                Some(value) => Ok(value),
-                None => Err(MemStop::Segv),
-            },
+        word::word(&self.bytes, at)
+    }
+
+    /// The number in the bytes at a place.
+    #[inline(always)]
+    pub fn number_at(&self, at: usize, width: Width) -> u64
+        requires { at + bytes_in width ≤ length self.now.bytes.items }
+        ensures number { result ≡ number_of (window self.now.bytes.items at (bytes_in width)) }
+        ensures fits { result < 256 ^ bytes_in width }
+    {
+        word::number(&self.bytes, at, width)
+    }
+
+    /// Where the bytes at an address are, if the fast path leads there and they permit the use.
+    #[inline(always)]
+    pub fn find(&self, access: Use, addr: u64, width: Width) -> Option<usize>
+        ensures { IfSome result (λ at. IsPlace self.now.areas (start_in self.now.starts) access addr (bytes_in width) at) }
+    {
+        self.slots[slot_index(addr)].find(access, addr, width)
+    }
+
+    /// The number in the bytes at an address, where each of them permits the use.
+    pub fn read(&mut self, access: Use, addr: u64, width: Width) -> Option<u64>
+        ensures read { IsRead (space_of self.old) (needed access) addr (bytes_in width) result }
+        ensures keeps { Keeps self.old self.new }
+    {
+        match self.find(access, addr, width) {
+            Some(at) => Some(self.number_at(at, width)),
+            None => self.read_slowly(access, addr, width),
         }
     }
 
-    // The number in `len` bytes at any address, under a permission: 1 to load, 4 to fetch.
+    /// The number in the bytes at an address to which the fast path doesn't lead, where each of them permits the use. The
+    /// slot of its page is set, so that the next access finds it there.
     #[cold]
     #[inline(never)]
-    fn read_slowly(&self, need: u64, addr: u64, len: u8) -> Option<u64>
-        requires need { 0 < need }
-        requires width { IsTrue (is_width len) }
-        ensures { IsRead (space_of self.now) need addr len result }
+    pub fn read_slowly(&mut self, access: Use, addr: u64, width: Width) -> Option<u64>
+        ensures read { IsRead (space_of self.old) (needed access) addr (bytes_in width) result }
+        ensures keeps { Keeps self.old self.new }
     {
-        let entry = self.table.entry(addr / PAGE_BYTES);
-        let at = addr % PAGE_BYTES;
-        if table::permits(entry, need) && at + len as u64 <= PAGE_BYTES {
-            let place = (entry / PAGE_BYTES * PAGE_BYTES + at) as usize;
-            return Some(word::number(&self.bytes, place, len));
+        if addr % PAGE_BYTES + width.bytes() > PAGE_BYTES {
+            return self.read_across(access, addr, width);
         }
-        self.read_across(need, addr, len)
+        if !self.page_permits(access, addr) {
+            return None;
+        }
+        let start = start_of(&self.starts, addr / PAGE_BYTES);
+        let slot = Slot::new(
+            addr / PAGE_BYTES,
+            self.areas.perms_at(Vpn(addr / PAGE_BYTES)),
+            start,
+        );
+        self.slots[slot_index(addr)] = slot;
+        Some(self.number_at(start + (addr % PAGE_BYTES) as usize, width))
     }
 
-    // The same for bytes that may lie in two pages.
+    // The number in bytes that may lie in two pages.
     #[cold]
-    fn read_across(&self, need: u64, addr: u64, len: u8) -> Option<u64>
-        requires need { 0 < need }
-        requires width { IsTrue (is_width len) }
-        ensures { IsRead (space_of self.now) need addr len result }
+    fn read_across(&self, access: Use, addr: u64, width: Width) -> Option<u64>
+        ensures { IsRead (space_of self.now) (needed access) addr (bytes_in width) result }
     {
-        if !self.permits(need, addr, len as u64) {
+        if !self.permits(access, addr, width.bytes()) {
             return None;
         }
         let mut value = 0;
-        for k in (0..len).rev() {
-            value = value * 256 + self.byte(addr + k as u64) as u64;
+        for k in (0..width.bytes()).rev() {
+            value = value * 256 + self.byte(addr + k) as u64;
         }
         Some(value)
     }
@@ -114,21 +147,27 @@ impl FlatSpace {
     fn byte(&self, addr: u64) -> u8
         ensures { result ≡ (space_of self.now).byte addr }
     {
-        let entry = self.table.entry(addr / PAGE_BYTES);
-        self.bytes[(entry / PAGE_BYTES * PAGE_BYTES + addr % PAGE_BYTES) as usize]
+        self.bytes[start_of(&self.starts, addr / PAGE_BYTES) + (addr % PAGE_BYTES) as usize]
     }
 
-    // Whether each of `len` bytes has a permission. Where it has, they end at 2^38 at most.
-    fn permits(&self, need: u64, addr: u64, len: u64) -> bool
-        requires { 0 < need }
-        ensures permits { result ≡ permits (space_of self.now) need addr len }
+    // Whether the page of an address permits a use.
+    fn page_permits(&self, access: Use, addr: u64) -> bool
+        ensures permits { result ≡ allows (perms_of self.now.areas (addr / 4096)) (needed access) }
+        ensures ends { IsTrue result → addr < 2 ^ 38 }
+    {
+        let _runs = self.areas.runs(); // none of them passes the end of the addresses, 2^38
+        permits(self.areas.perms_at(Vpn(addr / PAGE_BYTES)), access)
+    }
+
+    // Whether each of `len` bytes permits a use. Where they do, they end at 2^38 at most.
+    fn permits(&self, access: Use, addr: u64, len: u64) -> bool
+        ensures permits { result ≡ permits (space_of self.now) (needed access) addr len }
         ensures ends { IsTrue result → 0 < len → addr + len ≤ 2 ^ 38 }
     {
         let mut at = addr;
         let mut left = len;
         while left > 0 {
-            let entry = self.table.entry(at / PAGE_BYTES);
-            if !table::permits(entry, need) {
+            if !self.page_permits(access, at) {
                 return false;
             }
             let room = PAGE_BYTES - at % PAGE_BYTES;
@@ -141,53 +180,32 @@ impl FlatSpace {
         true
     }
 
-    /// Writes the lowest `len` bytes (1, 2, 4 or 8) of a value at an address, where each of them may be stored.
+    /// Writes the lowest bytes of a value at an address, where the fast path leads there: whether it did.
     #[inline(always)]
-    pub fn store(&mut self, addr: u64, len: u8, value: u64) -> Result<(), MemStop>
-        requires width { IsTrue (is_width len) }
-        ensures writes { Writes (space_of self.old) addr len result }
-        ensures changes { Changes result addr len value (space_of self.old) (space_of self.new) }
-        ensures halts { OutOfMemory result }
+    pub fn store_fast(&mut self, addr: u64, width: Width, value: u64) -> bool
+        ensures stays { (self.new.areas ≡ self.old.areas) × (self.new.starts ≡ self.old.starts) }
+        ensures done { MatchBool result (IsWrite (space_of self.old) (space_of self.new) addr (bytes_in width) value true) (Keeps self.old self.new) }
     {
-        if let Some(at) = self.table.place(2, addr, len) {
-            word::put(&mut self.bytes, at, len, value);
-            return Ok(());
-        }
-        match self.write_slowly(addr, len, value) {
-            Ok(true) => Ok(()),
-            Ok(false) => Err(MemStop::Segv),
-            Err(_) => Err(MemStop::Halt(Halt::NoMemory)),
+        match self.find(Use::Store, addr, width) {
+            Some(at) => {
+                word::put(&mut self.bytes, at, width, value);
+                true
+            }
+            None => false,
         }
     }
 
-    // The same for pages that have no quick way, and at any address: whether the bytes may be stored.
+    /// Writes the lowest bytes of a value at any address, where each of them may be stored: whether they may.
     #[cold]
     #[inline(never)]
-    fn write_slowly(&mut self, addr: u64, len: u8, value: u64) -> Result<bool, NoMemory>
-        requires width { IsTrue (is_width len) }
-        ensures { IfOk result (IsWrite (space_of self.old) (space_of self.new) addr len value) }
+    pub fn store_slowly(&mut self, addr: u64, width: Width, value: u64) -> Result<bool, NoMemory>
+        ensures { IfOk result (IsWrite (space_of self.old) (space_of self.new) addr (bytes_in width) value) }
     {
-        let entry = self.table.entry(addr / PAGE_BYTES);
-        let at = addr % PAGE_BYTES;
-        if table::may_store(entry) && at + len as u64 <= PAGE_BYTES {
-            let place = (entry / PAGE_BYTES * PAGE_BYTES + at) as usize;
-            word::put(&mut self.bytes, place, len, value);
-            return Ok(true);
-        }
-        self.write_across(addr, len, value)
-    }
-
-    // The same for bytes that may lie in two pages, and in pages that weren't written yet.
-    #[cold]
-    fn write_across(&mut self, addr: u64, len: u8, value: u64) -> Result<bool, NoMemory>
-        requires width { IsTrue (is_width len) }
-        ensures { IfOk result (IsWrite (space_of self.old) (space_of self.new) addr len value) }
-    {
-        if !self.permits(2, addr, len as u64) {
+        if !self.permits(Use::Store, addr, width.bytes()) {
             return Ok(false);
         }
         let number = value.to_le_bytes();
-        self.fill(addr, &number[..len as usize])?;
+        self.fill(addr, &number[..width.bytes() as usize])?;
         Ok(true)
     }
 
@@ -209,8 +227,7 @@ impl FlatSpace {
 
     // Writes bytes of one page.
     fn fill_page(&mut self, addr: u64, bytes: &[u8]) -> Result<(), NoMemory>
-        requires below { addr < 2 ^ 38 }
-        requires one { addr % 4096 + length bytes.now ≤ 4096 }
+        requires { addr % 4096 + length bytes.now ≤ 4096 }
         ensures { OnOk result (space_of self.new ≡ with_bytes (space_of self.old) addr bytes.now) }
     {
         let start = self.own_page(addr / PAGE_BYTES)?;
@@ -219,20 +236,16 @@ impl FlatSpace {
         Ok(())
     }
 
-    // Where a page's own bytes begin. They are made, all 0, where the page has none.
+    // Where the bytes of a page begin that it has for itself: they are made if there are none. The page's slot is set.
     fn own_page(&mut self, page: u64) -> Result<usize, NoMemory>
-        requires { page < 2 ^ 26 }
+        requires { page < 2 ^ 52 }
         ensures same { space_of self.new ≡ space_of self.old }
-        ensures own { OnOk result (4096 ≤ entry_of self.new.table page) }
-        ensures start { IfOk result (λ start. start ≡ entry_of self.new.table page / 4096 * 4096) }
+        ensures own { OnOk result (0 < start_in self.new.starts page) }
+        ensures start { IfOk result (λ start. start ≡ start_in self.new.starts page) }
     {
-        let entry = self.table.entry(page);
-        if entry >= PAGE_BYTES {
-            return Ok((entry / PAGE_BYTES * PAGE_BYTES) as usize);
-        }
-        let start = self.bytes.len();
-        self.bytes.resize(start + PAGE, 0)?;
-        self.table.set(page, start as u64 + entry)?;
+        let start = own_piece(&mut self.starts, &mut self.bytes, page)?;
+        let slot = Slot::new(page, self.areas.perms_at(Vpn(page)), start);
+        self.slots[(page % SLOTS) as usize] = slot;
         Ok(start)
     }
 
@@ -240,13 +253,10 @@ impl FlatSpace {
     pub fn copy(&self, alloc: Global, addr: u64, len: u64) -> Result<Bytes, MemStop>
         ensures { Copied (space_of self.now) addr len result }
     {
-        if !self.permits(1, addr, len) {
+        if !self.permits(Use::Load, addr, len) {
             return Err(MemStop::Segv);
         }
-        match self.pages(alloc, addr, len as usize) {
-            Ok(bytes) => Ok(bytes),
-            Err(_) => Err(MemStop::Halt(Halt::NoMemory)),
-        }
+        Ok(self.pages(alloc, addr, len as usize)?)
     }
 
     /// Writes bytes, at least one, where each of them may be written.
@@ -254,13 +264,10 @@ impl FlatSpace {
         requires { 0 < length bytes.now }
         ensures { CopiedOut (space_of self.old) (space_of self.new) addr bytes.now result }
     {
-        if !self.permits(2, addr, bytes.len() as u64) {
+        if !self.permits(Use::Store, addr, bytes.len() as u64) {
             return Err(MemStop::Segv);
         }
-        match self.fill(addr, bytes) {
-            Ok(()) => Ok(()),
-            Err(_) => Err(MemStop::Halt(Halt::NoMemory)),
-        }
+        Ok(self.fill(addr, bytes)?)
     }
 
     // A copy of `len` bytes that end at 2^38 at most, page by page.
@@ -272,8 +279,7 @@ impl FlatSpace {
         let mut done = 0;
         while done < len {
             let at = addr + done as u64;
-            let entry = self.table.entry(at / PAGE_BYTES);
-            let place = (entry / PAGE_BYTES * PAGE_BYTES + at % PAGE_BYTES) as usize;
+            let place = start_of(&self.starts, at / PAGE_BYTES) + (at % PAGE_BYTES) as usize;
             let more = ((PAGE_BYTES - at % PAGE_BYTES) as usize).min(len - done);
             copy.extend_from_slice(&self.bytes[place..place + more])?;
             done += more;
@@ -282,30 +288,32 @@ impl FlatSpace {
     }
 }
 
-// Sets the entries of the pages of runs to their permissions, in a table where no entry is set.
-fn map_runs(table: &mut Table, runs: &[Area]) -> Result<(), NoMemory>
-    requires canonical { IsCanonical runs.now }
-    requires empty { (p : ℕ) → entry_of table.old p ≡ 0 }
-    ensures perms { OnOk result ((p : ℕ) → entry_of table.new p ≡ bits_of (perms_of runs.now p)) }
-    ensures small { OnOk result ((p : ℕ) → entry_of table.new p < 4096) }
+// Where the bytes of a page begin.
+fn start_of(starts: &HashMap<u64, usize>, page: u64) -> usize
+    ensures { result ≡ start_in starts.now page }
 {
-    for i in (0..runs.len()).rev() {
-        map_run(table, &runs[i])?;
-    }
-    Ok(())
+    starts.get(&page).copied().unwrap_or(0)
 }
 
-// Sets the entries of the pages of a run to its permissions.
-fn map_run(table: &mut Table, run: &Area) -> Result<(), NoMemory>
-    requires { run.now.first.0 + run.now.pages ≤ 2 ^ 26 }
-    ensures perms { OnOk result ((p : ℕ) → entry_of table.new p ≡ (if has_page run.now p then run.now.perms.0 else entry_of table.old p)) }
-    ensures small { run.now.perms.0 < 256 }
+// Where the bytes of a page begin that it has for itself: a piece of zeros is made for it if it has none.
+fn own_piece(
+    starts: &mut HashMap<u64, usize>,
+    bytes: &mut Vec<u8>,
+    page: u64,
+) -> Result<usize, NoMemory>
+    requires { IsPieces (start_in starts.old) bytes.old.items }
+    ensures pieces { IsPieces (start_in starts.new) bytes.new.items }
+    ensures same { byte_in (start_in starts.new) bytes.new.items ≡ byte_in (start_in starts.old) bytes.old.items }
+    ensures own { IfOk result (λ start. (0 < start) × (start ≡ start_in starts.new page)) }
+    ensures others { (p : ℕ) → (p ≡ page → ⊥) → start_in starts.new p ≡ start_in starts.old p }
+    ensures err { OnErr result ((p : ℕ) → start_in starts.new p ≡ start_in starts.old p) }
 {
-    let entry = run.perms.bits() as u64;
-    let first = run.first.0;
-    let end = first + run.pages;
-    for page in first..end {
-        table.set(page, entry)?;
+    let own = start_of(starts, page);
+    if own > 0 {
+        return Ok(own);
     }
-    Ok(())
+    let start = bytes.len();
+    bytes.resize(start + PAGE, 0)?;
+    starts.insert(page, start)?;
+    Ok(start)
 }

@@ -1,54 +1,56 @@
-ghost use Rattle.std.specs.Prelude.{◌≡◌, ◌+◌, ◌^◌, ◌<◌, ◌≤◌, length, IsTrue};
+//! Numbers in bytes, the lowest byte first.
+ghost use Rattle.std.specs.Prelude.{◌≡◌, ◌+◌, ◌^◌, ◌<◌, ◌≤◌, length};
 ghost use Rattle.lego_base.specs.Space.{number_of, bytes_of};
-ghost use Rattle.rv64_step.specs.Access.{is_width};
-ghost use Rattle.flat_memory.specs.Frames.{window, Written};
+ghost use Rattle.rv64_step.specs.Access.{bytes_in};
+ghost use Rattle.flat_memory.specs.Pieces.{window, Written};
 
-// The number in `len` bytes (1, 2, 4 or 8) from a place on, the lowest byte first.
+use rv64_step::Width;
+
+// The number in the bytes at a place.
 #[inline(always)]
-pub fn number(bytes: &[u8], at: usize, len: u8) -> u64
-    requires width { IsTrue (is_width len) }
-    requires ends { at + len ≤ length bytes.now }
-    ensures number { result ≡ number_of (window bytes.now at len) }
-    ensures fits { result < 256 ^ len }
+pub fn number(bytes: &[u8], at: usize, width: Width) -> u64
+    requires { at + bytes_in width ≤ length bytes.now }
+    ensures number { result ≡ number_of (window bytes.now at (bytes_in width)) }
+    ensures fits { result < 256 ^ bytes_in width }
 {
-    match len {
-        1 => bytes[at] as u64,
-        2 => u16::from_le_bytes([bytes[at], bytes[at + 1]]) as u64,
-        4 => word(bytes, at) as u64,
-        _ => u64::from_le_bytes([
-            bytes[at],
-            bytes[at + 1],
-            bytes[at + 2],
-            bytes[at + 3],
-            bytes[at + 4],
-            bytes[at + 5],
-            bytes[at + 6],
-            bytes[at + 7],
-        ]),
+    match width {
+        Width::Byte => bytes[at] as u64,
+        Width::Half => {
+            let mut two = [0; 2];
+            two.copy_from_slice(&bytes[at..at + 2]);
+            u16::from_le_bytes(two) as u64
+        }
+        Width::Word => word(bytes, at) as u64,
+        Width::Double => {
+            let mut eight = [0; 8];
+            eight.copy_from_slice(&bytes[at..at + 8]);
+            u64::from_le_bytes(eight)
+        }
     }
 }
 
-// The number in the four bytes from a place on, the lowest byte first.
+// The number in the four bytes at a place. They are read as one array, so that the compiler reads them at once.
 #[inline(always)]
 pub fn word(bytes: &[u8], at: usize) -> u32
     requires { at + 4 ≤ length bytes.now }
     ensures { result ≡ number_of (window bytes.now at 4) }
 {
-    u32::from_le_bytes([bytes[at], bytes[at + 1], bytes[at + 2], bytes[at + 3]])
+    let mut four = [0; 4];
+    four.copy_from_slice(&bytes[at..at + 4]);
+    u32::from_le_bytes(four)
 }
 
-// Writes the lowest `len` bytes (1, 2, 4 or 8) of a value from a place on, the lowest byte first.
+// Writes the lowest bytes of a value at a place.
 #[inline(always)]
-pub fn put(bytes: &mut [u8], at: usize, len: u8, value: u64)
-    requires width { IsTrue (is_width len) }
-    requires ends { at + len ≤ length bytes.old }
-    ensures { Written bytes.old at (bytes_of len value) bytes.new }
+pub fn put(bytes: &mut [u8], at: usize, width: Width, value: u64)
+    requires { at + bytes_in width ≤ length bytes.old }
+    ensures { Written bytes.old at (bytes_of (bytes_in width) value) bytes.new }
 {
     let number = value.to_le_bytes();
-    match len {
-        1 => bytes[at] = number[0],
-        2 => bytes[at..at + 2].copy_from_slice(&number[..2]),
-        4 => bytes[at..at + 4].copy_from_slice(&number[..4]),
-        _ => bytes[at..at + 8].copy_from_slice(&number),
+    match width {
+        Width::Byte => bytes[at] = number[0],
+        Width::Half => bytes[at..at + 2].copy_from_slice(&number[..2]),
+        Width::Word => bytes[at..at + 4].copy_from_slice(&number[..4]),
+        Width::Double => bytes[at..at + 8].copy_from_slice(&number),
     }
 }

@@ -44,40 +44,40 @@ stored_is pid address n value cpu after old new (Err mem_stop.Segv) result cpu' 
     (record { stops = refl; left = sym ends.1; sees = sym changes }))
 stored_is pid address n value cpu after old new (Err (mem_stop.Halt halt)) result cpu' writes changes ends = halted _ cpu' new result halt ends.0
 
--- A memory that serves every process.
-module _ {X : Type 0} (serves : X → ℕ → Bool) (space : X → ℕ → Space) (fetches : X → ℕ → ℕ → Result ℕ MemStop → X → Type 0) (loads : X → ℕ → ℕ → ℕ → Result ℕ MemStop → X → Type 0) (stores : X → ℕ → ℕ → ℕ → ℕ → Result (Unit {0}) MemStop → X → Type 0) (pid : ℕ) (all : (x : X) (q : ℕ) → IsTrue (serves x q)) where
-  asked_is : (cpu : Cpu) (want : Asks) (mid new : X) (result : Result StepEnd Halt) (cpu' : Cpu) → Does (Loaded serves space loads pid) (Stored serves space stores pid) cpu want mid result cpu' new → IfOk result (λ stop. Agrees (asked pid cpu (space mid pid) want) stop cpu' (space new pid))
-  asked_is cpu (Ends stop after) mid new result cpu' does =
+-- A memory that serves the process.
+module _ {X : Type 0} (serves : X → ℕ → Bool) (space : X → ℕ → Space) (fetches : X → ℕ → ℕ → Result ℕ MemStop → X → Type 0) (loads : X → ℕ → ℕ → ℕ → Result ℕ MemStop → X → Type 0) (stores : X → ℕ → ℕ → ℕ → ℕ → Result (Unit {0}) MemStop → X → Type 0) (pid : ℕ) where
+  asked_is : (cpu : Cpu) (want : Asks) (mid new : X) (result : Result StepEnd Halt) (cpu' : Cpu) → IsTrue (serves mid pid) → Does (Loaded serves space loads pid) (Stored serves space stores pid) cpu want mid result cpu' new → IfOk result (λ stop. Agrees (asked pid cpu (space mid pid) want) stop cpu' (space new pid))
+  asked_is cpu (Ends stop after) mid new result cpu' here does =
       came (asked pid cpu (space mid pid) (Ends stop after)) cpu' (space new pid) result stop does.0
       (record { stops = refl; left = sym does.1; sees = ap (λ x. space x pid) (sym does.2) })
-  asked_is cpu (Loads address n after) mid new result cpu' (answer, loaded, ends) =
-      loaded_is pid address n cpu after (space mid pid) (space new pid) answer result cpu' loaded.reads (loaded.keeps pid (all mid pid)) ends
-  asked_is cpu (Stores address n value after) mid new result cpu' (answer, stored, ends) =
+  asked_is cpu (Loads address n after) mid new result cpu' here (answer, loaded, ends) =
+      loaded_is pid address n cpu after (space mid pid) (space new pid) answer result cpu' loaded.reads (loaded.keeps pid here) ends
+  asked_is cpu (Stores address n value after) mid new result cpu' here (answer, stored, ends) =
       stored_is pid address n value cpu after (space mid pid) (space new pid) answer result cpu' stored.writes stored.changes ends
 
-  obeyed_is : (cpu : Cpu) (word : Option Instr) (mid new : X) (result : Result StepEnd Halt) (cpu' : Cpu) → Obeys (Loaded serves space loads pid) (Stored serves space stores pid) cpu word mid result cpu' new → IfOk result (λ stop. Agrees (obeyed pid cpu (space mid pid) word) stop cpu' (space new pid))
-  obeyed_is cpu None mid new result cpu' obeys =
+  obeyed_is : (cpu : Cpu) (word : Option Instr) (mid new : X) (result : Result StepEnd Halt) (cpu' : Cpu) → IsTrue (serves mid pid) → Obeys (Loaded serves space loads pid) (Stored serves space stores pid) cpu word mid result cpu' new → IfOk result (λ stop. Agrees (obeyed pid cpu (space mid pid) word) stop cpu' (space new pid))
+  obeyed_is cpu None mid new result cpu' here obeys =
       came (obeyed pid cpu (space mid pid) None) cpu' (space new pid) result (Dead 4) obeys.0
       (record { stops = refl; left = sym obeys.1; sees = ap (λ x. space x pid) (sym obeys.2) })
-  obeyed_is cpu (Some i) mid new result cpu' obeys = asked_is cpu (asks i cpu i.op) mid new result cpu' obeys
+  obeyed_is cpu (Some i) mid new result cpu' here obeys = asked_is cpu (asks i cpu i.op) mid new result cpu' here obeys
 
   behind_is : (r : Ran) (es : List _) (result : Result StepEnd Halt) (cpu' : Cpu) (new : Space) → IfOk result (λ stop. Agrees r stop cpu' new) → IfOk result (λ stop. Agrees (record r { effects = es }) stop cpu' new)
   behind_is r es (Ok stop) cpu' new agrees = record { stops = agrees.stops; left = agrees.left; sees = agrees.sees }
   behind_is r es (Err halt) cpu' new agrees = tt
 
-  fetched_is : (cpu : Cpu) (old mid new : X) (word : Result ℕ MemStop) (result : Result StepEnd Halt) (cpu' : Cpu) → Fetched serves space fetches pid old cpu.pc word mid → AfterFetch (Loaded serves space loads pid) (Stored serves space stores pid) cpu word mid result cpu' new → IfOk result (λ stop. Agrees (one pid cpu (space old pid)) stop cpu' (space new pid))
-  fetched_is cpu old mid new (Ok word) result cpu' fetched rest =
-      let same : space mid pid ≡ space old pid = fetched.keeps pid (all old pid) in
-      let obeyed_mid = obeyed_is cpu (decoded word) mid new result cpu' rest in
+  fetched_is : (cpu : Cpu) (old mid new : X) (word : Result ℕ MemStop) (result : Result StepEnd Halt) (cpu' : Cpu) → IsTrue (serves old pid) → Fetched serves space fetches pid old cpu.pc word mid → AfterFetch (Loaded serves space loads pid) (Stored serves space stores pid) cpu word mid result cpu' new → IfOk result (λ stop. Agrees (one pid cpu (space old pid)) stop cpu' (space new pid))
+  fetched_is cpu old mid new (Ok word) result cpu' here fetched rest =
+      let same : space mid pid ≡ space old pid = fetched.keeps pid here in
+      let obeyed_mid = obeyed_is cpu (decoded word) mid new result cpu' (subst IsTrue (sym (fetched.served pid)) here) rest in
       let there : IfOk result (λ stop. Agrees (obeyed pid cpu (space old pid) (decoded (number_of (bytes_at (space old pid) cpu.pc 4)))) stop cpu' (space new pid)) = subst (λ (p : Space × ℕ). IfOk result (λ stop. Agrees (obeyed pid cpu p.0 (decoded p.1)) stop cpu' (space new pid))) (λ i. (same i, fetched.reads.1 i)) obeyed_mid in
       if_true (λ (r : Ran). IfOk result (λ stop. Agrees r stop cpu' (space new pid))) (permits (space old pid) 4 cpu.pc 4) _ _ fetched.reads.0
       (behind_is (obeyed pid cpu (space old pid) (decoded (number_of (bytes_at (space old pid) cpu.pc 4)))) _ result cpu' (space new pid) there)
-  fetched_is cpu old mid new (Err mem_stop.Segv) result cpu' fetched rest =
+  fetched_is cpu old mid new (Err mem_stop.Segv) result cpu' here fetched rest =
       came (one pid cpu (space old pid)) cpu' (space new pid) result (Dead 11) rest.0
       (if_false (λ (r : Ran). Agrees r (Dead 11) cpu' (space new pid)) (permits (space old pid) 4 cpu.pc 4) _ _ fetched.reads
-      (record { stops = refl; left = sym rest.1; sees = sym (fetched.keeps pid (all old pid)) ∙ ap (λ x. space x pid) (sym rest.2) }))
-  fetched_is cpu old mid new (Err (mem_stop.Halt halt)) result cpu' fetched rest = halted _ cpu' (space new pid) result halt rest.0
+      (record { stops = refl; left = sym rest.1; sees = sym (fetched.keeps pid here) ∙ ap (λ x. space x pid) (sym rest.2) }))
+  fetched_is cpu old mid new (Err (mem_stop.Halt halt)) result cpu' here fetched rest = halted _ cpu' (space new pid) result halt rest.0
 
   -- a step that ended is the one instruction, on the space before it and the space after it
-  pub step_is : (cpu : Cpu) (old : X) (result : Result StepEnd Halt) (cpu' : Cpu) (new : X) → IsStep (Fetched serves space fetches pid) (Loaded serves space loads pid) (Stored serves space stores pid) cpu old result cpu' new → IfOk result (λ stop. Agrees (one pid cpu (space old pid)) stop cpu' (space new pid))
-  step_is cpu old result cpu' new step = fetched_is cpu old step.mid new step.word result cpu' step.fetch step.rest
+  pub step_is : (cpu : Cpu) (old : X) (result : Result StepEnd Halt) (cpu' : Cpu) (new : X) → IsTrue (serves old pid) → IsStep (Fetched serves space fetches pid) (Loaded serves space loads pid) (Stored serves space stores pid) cpu old result cpu' new → IfOk result (λ stop. Agrees (one pid cpu (space old pid)) stop cpu' (space new pid))
+  step_is cpu old result cpu' new here step = fetched_is cpu old step.mid new step.word result cpu' here step.fetch step.rest

@@ -1,12 +1,27 @@
 -- What one call of a guest memory says: its answer by the space, and what becomes of the spaces.
-use Rattle.std.specs.Prelude.{◌≡◌, ℕ, ◌==◌, ◌||◌, Bool, true, false, Result, Ok, Err, IsTrue}
+use Rattle.std.specs.Prelude.{◌≡◌, ℕ, Bool, true, false, Result, Ok, Err, IsTrue}
 use Rattle.lego_base.specs.declared.stops.MemStop.{MemStop}
 use Rattle.lego_base.specs.declared.stops.MemStop.TheVariants.{Segv, Halt}
+use Rattle.rv64_step.specs.declared.width.Width.{Width}
+use Rattle.rv64_step.specs.declared.width.Width.TheVariants.{Byte, Half, Word, Double}
 use Rattle.lego_base.specs.Space.{Space, permits, bytes_at, number_of, bytes_of, with_bytes}
 
--- the lengths of a load or a store
-abbrev pub is_width : ℕ → Bool
-is_width n = n == 1 || n == 2 || n == 4 || n == 8
+-- the bytes of a load or a store
+abbrev pub bytes_in : Width → ℕ
+bytes_in Byte = 1
+bytes_in Half = 2
+bytes_in Word = 4
+bytes_in Double = 8
+
+-- the permission that an access needs of each of its bytes, as `Perms` numbers them
+abbrev pub to_load : ℕ
+to_load = 1
+
+abbrev pub to_store : ℕ
+to_store = 2
+
+abbrev pub to_fetch : ℕ
+to_fetch = 4
 
 -- what a read of n bytes gives, under a permission: the number that is there where each byte may be
 -- read, Segv exactly where one may not
@@ -17,8 +32,8 @@ Reads space need address n (Err (Halt halt)) = Unit {0}
 
 -- what a write of n bytes gives: Segv exactly where a byte may not be written
 abbrev pub Writes : Space → ℕ → ℕ → Result (Unit {0}) MemStop → Type 0
-Writes space address n (Ok done) = permits space 2 address n ≡ true
-Writes space address n (Err Segv) = permits space 2 address n ≡ false
+Writes space address n (Ok done) = permits space to_store address n ≡ true
+Writes space address n (Err Segv) = permits space to_store address n ≡ false
 Writes space address n (Err (Halt halt)) = Unit {0}
 
 -- a space after an access that changes nothing; nothing is said after a halt
@@ -39,7 +54,7 @@ pub record Fetched {X : Type 0} (serves : X → ℕ → Bool) (space : X → ℕ
     (pid : ℕ) (old : X) (address : ℕ) (answer : Result ℕ MemStop) (new : X) : Type 0 where
   pub joined : fetches old pid address answer new
   pub served : (q : ℕ) → serves new q ≡ serves old q
-  pub reads : Reads (space old pid) 4 address 4 answer
+  pub reads : Reads (space old pid) to_fetch address 4 answer
   pub keeps : (q : ℕ) → IsTrue (serves old q) → Keeps answer (space old q) (space new q)
 
 -- A load of n bytes.
@@ -47,7 +62,7 @@ pub record Loaded {X : Type 0} (serves : X → ℕ → Bool) (space : X → ℕ 
     (pid : ℕ) (old : X) (address n : ℕ) (answer : Result ℕ MemStop) (new : X) : Type 0 where
   pub joined : loads old pid address n answer new
   pub served : (q : ℕ) → serves new q ≡ serves old q
-  pub reads : Reads (space old pid) 1 address n answer
+  pub reads : Reads (space old pid) to_load address n answer
   pub keeps : (q : ℕ) → IsTrue (serves old q) → Keeps answer (space old q) (space new q)
 
 -- A store of a value's lowest n bytes. Other spaces stay.

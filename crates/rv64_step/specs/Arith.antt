@@ -1,5 +1,5 @@
 -- The arithmetic of RV64IM on words, over whole numbers: sums, products, quotients, remainders and powers
--- of two. Laid beside the chapters "RV32I", "RV64I" and "M" of the RISC-V manual, volume I.
+-- of two. To be compared with the chapters "RV32I", "RV64I" and "M" of the RISC-V manual, volume I.
 use Rattle.std.specs.Prelude.{ℕ, zero, suc, ℤ, ◌+◌, ◌-◌, ◌*◌, ◌/◌, ◌%◌, ◌^◌, ◌==◌, if◌then◌else◌, nat_lt, pos, ◌*ℤ◌, int_lt, int_div, int_rem, unsigned_abs}
 use Rattle.std.specs.Int.{int_rem_euclid, int_shr}
 use Rattle.rv64_step.specs.Word.{signed, word, sext}

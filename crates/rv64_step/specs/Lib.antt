@@ -2,3 +2,4 @@ pub mod Word
 pub mod Arith
 pub mod Access
 pub mod Meaning
+pub mod Harts

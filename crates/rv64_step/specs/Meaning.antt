@@ -1,5 +1,5 @@
 -- What each instruction asks for: an end with the registers after it, or one access to memory, with the
--- registers by what it gives. One line an instruction, to be laid beside the chapters "RV32I", "RV64I"
+-- registers by what it gives. One line an instruction, to be compared with the chapters "RV32I", "RV64I"
 -- and "M" of the RISC-V manual, volume I.
 use Rattle.std.specs.Prelude.{◌≡◌, ℕ, ℤ, ◌+◌, ◌*◌, ◌/◌, ◌%◌, ◌^◌, ◌==◌, Bool, if◌then◌else◌, nat_lt, nat_le, not, slice_index, slice_set, int_lt, int_le, Option, Some, None, Result, Ok, Err}
 use Rattle.std.specs.Int.{cast_unsigned, w64}
@@ -32,9 +32,9 @@ with_reg cpu r value pc = record { pc = pc; x = if r == 0 then cpu.x else slice_
 pub data Asks : Type 0 where
   -- nothing of memory: how the step ends, and the processor after it
   Ends : StepEnd → Cpu → Asks
-  -- a load from an address of so many bytes, and the processor by the value
+  -- a load of n bytes at an address, and the processor by the value
   Loads : ℕ → ℕ → (ℕ → Cpu) → Asks
-  -- a store to an address of so many bytes of a value, and the processor after it
+  -- a store of the lowest n bytes of a value at an address, and the processor after it
   Stores : ℕ → ℕ → ℕ → Cpu → Asks
 
 -- a value for a register, then the next instruction
@@ -49,7 +49,7 @@ by_registers f i cpu = sets cpu i.rd (f (reg cpu i.rs1) (reg cpu i.rs2))
 abbrev pub by_constant : (ℕ → ℕ → ℕ) → Instr → Cpu → Asks
 by_constant f i cpu = sets cpu i.rd (f (reg cpu i.rs1) (cast_unsigned w64 i.imm))
 
--- A jump that links: the return address goes to a register. A target that is no multiple of 4 kills by
+-- A jump that links: the return address goes to a register. A target that isn't a multiple of 4 kills by
 -- signal 7 before anything is written.
 abbrev pub links : Cpu → ℕ → ℕ → Asks
 links cpu r target = if target % 4 == 0 then Ends Next (with_reg cpu r (next_pc cpu) target) else Ends (Dead 7) cpu
@@ -61,11 +61,11 @@ branches cpu offset taken =
     then (if plus cpu.pc offset % 4 == 0 then Ends Next (record cpu { pc = plus cpu.pc offset }) else Ends (Dead 7) cpu)
     else Ends Next (record cpu { pc = next_pc cpu })
 
--- a load of so many bytes, and the value for the destination by what is there
+-- a load of n bytes, and the value for the destination by what is there
 abbrev pub loads : Instr → Cpu → ℕ → (ℕ → ℕ) → Asks
 loads i cpu n extended = Loads (plus (reg cpu i.rs1) i.imm) n (λ v. with_reg cpu i.rd (extended v) (next_pc cpu))
 
--- a store of so many bytes of the second register
+-- a store of the lowest n bytes of the second register
 abbrev pub stores : Instr → Cpu → ℕ → Asks
 stores i cpu n = Stores (plus (reg cpu i.rs1) i.imm) n (reg cpu i.rs2) (record cpu { pc = next_pc cpu })
 
@@ -158,7 +158,7 @@ Does loaded stored cpu (Ends end after) mid result cpu' new = (result ≡ Ok end
 Does loaded stored cpu (Loads address n after) mid result cpu' new = (answer : Result ℕ MemStop) × loaded mid address n answer new × AfterLoad cpu after answer result cpu'
 Does loaded stored cpu (Stores address n value after) mid result cpu' new = (answer : Result (Unit {0}) MemStop) × stored mid address n value answer new × AfterStore cpu after answer result cpu'
 
--- An instruction was obeyed; a word that is none kills by signal 4.
+-- An instruction was executed; a word that isn't one kills by signal 4.
 abbrev pub Obeys : {X : Type 0} → (X → ℕ → ℕ → Result ℕ MemStop → X → Type 0) → (X → ℕ → ℕ → ℕ → Result (Unit {0}) MemStop → X → Type 0) → Cpu → Option Instr → X → Result StepEnd Halt → Cpu → X → Type 0
 Obeys loaded stored cpu None mid result cpu' new = (result ≡ Ok (Dead 4)) × (cpu' ≡ cpu) × (new ≡ mid)
 Obeys loaded stored cpu (Some i) mid result cpu' new = Does loaded stored cpu (asks i cpu i.op) mid result cpu' new

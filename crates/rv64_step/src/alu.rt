@@ -1,8 +1,11 @@
-//! Arithmetic on words of 64 bits. The W forms work on the low 32 bits and sign extend the result.
+//! Arithmetic on words of 64 bits: the operations of the chapters "RV32I", "RV64I" and "M" of the RISC-V manual,
+//! volume I, each named for its instruction. A shift goes by the low six bits of the second word. The W forms work on the
+//! low 32 bits, shift by the low five, and sign extend the result.
 ghost use Rattle.std.specs.Prelude.{◌≡◌, ◌%◌, ◌^◌, int_lt, int_le};
 ghost use Rattle.rv64_step.specs.Arith.{xor, or, and, sra, slt, sltu, mulh, mulhsu, mulhu, div, divu, rem, remu, addw, subw, sllw, srlw, sraw, mulw, divw, divuw, remw, remuw};
 ghost use Rattle.rv64_step.specs.Word.{signed, sext};
 
+/// Bitwise exclusive or.
 #[inline(always)]
 #[tactic(auto, using(crate::proofs::Digits::xor_is))]
 pub fn xor(a: u64, b: u64) -> u64
@@ -11,6 +14,7 @@ pub fn xor(a: u64, b: u64) -> u64
     a ^ b
 }
 
+/// Bitwise or.
 #[inline(always)]
 #[tactic(auto, using(crate::proofs::Digits::or_is))]
 pub fn or(a: u64, b: u64) -> u64
@@ -19,6 +23,7 @@ pub fn or(a: u64, b: u64) -> u64
     a | b
 }
 
+/// Bitwise and.
 #[inline(always)]
 #[tactic(auto, using(crate::proofs::Digits::and_is))]
 pub fn and(a: u64, b: u64) -> u64
@@ -27,6 +32,7 @@ pub fn and(a: u64, b: u64) -> u64
     a & b
 }
 
+/// A shift to the right that keeps the sign.
 #[inline(always)]
 pub fn sra(a: u64, b: u64) -> u64
     ensures { result ≡ sra a b }
@@ -50,17 +56,15 @@ pub fn ge(a: u64, b: u64) -> bool
     a.cast_signed() >= b.cast_signed()
 }
 
+/// 1 where the first is less, as signed numbers, else 0.
 #[inline(always)]
 pub fn slt(a: u64, b: u64) -> u64
     ensures { result ≡ slt a b }
 {
-    if a.cast_signed() < b.cast_signed() {
-        1
-    } else {
-        0
-    }
+    if lt(a, b) { 1 } else { 0 }
 }
 
+/// 1 where the first is less, else 0.
 #[inline(always)]
 pub fn sltu(a: u64, b: u64) -> u64
     ensures { result ≡ sltu a b }
@@ -68,6 +72,7 @@ pub fn sltu(a: u64, b: u64) -> u64
     if a < b { 1 } else { 0 }
 }
 
+/// The upper 64 bits of the product of signed numbers.
 pub fn mulh(a: u64, b: u64) -> u64
     ensures { result ≡ mulh a b }
 {
@@ -75,6 +80,7 @@ pub fn mulh(a: u64, b: u64) -> u64
     (product.cast_unsigned() >> 64) as u64
 }
 
+/// The upper 64 bits of the product of a signed number and an unsigned one.
 pub fn mulhsu(a: u64, b: u64) -> u64
     ensures { result ≡ mulhsu a b }
 {
@@ -82,6 +88,7 @@ pub fn mulhsu(a: u64, b: u64) -> u64
     (product.cast_unsigned() >> 64) as u64
 }
 
+/// The upper 64 bits of the product.
 pub fn mulhu(a: u64, b: u64) -> u64
     ensures { result ≡ mulhu a b }
 {
@@ -102,6 +109,7 @@ pub fn div(a: u64, b: u64) -> u64
     }
 }
 
+/// A zero divisor gives all ones.
 pub fn divu(a: u64, b: u64) -> u64
     ensures { result ≡ divu a b }
 {
@@ -121,6 +129,7 @@ pub fn rem(a: u64, b: u64) -> u64
     }
 }
 
+/// A zero divisor gives the dividend.
 pub fn remu(a: u64, b: u64) -> u64
     ensures { result ≡ remu a b }
 {
@@ -159,6 +168,7 @@ pub fn sext8(a: u64) -> u64
     (((a & 0xff) as u8).cast_signed() as i64).cast_unsigned()
 }
 
+/// The sum of words of 32 bits.
 #[inline(always)]
 pub fn addw(a: u64, b: u64) -> u64
     ensures { result ≡ addw a b }
@@ -166,6 +176,7 @@ pub fn addw(a: u64, b: u64) -> u64
     sext32(a.wrapping_add(b))
 }
 
+/// The difference of words of 32 bits.
 #[inline(always)]
 pub fn subw(a: u64, b: u64) -> u64
     ensures { result ≡ subw a b }
@@ -173,6 +184,7 @@ pub fn subw(a: u64, b: u64) -> u64
     sext32(a.wrapping_sub(b))
 }
 
+/// A shift of a word of 32 bits to the left.
 #[inline(always)]
 pub fn sllw(a: u64, b: u64) -> u64
     ensures { result ≡ sllw a b }
@@ -180,6 +192,7 @@ pub fn sllw(a: u64, b: u64) -> u64
     sext32(a << (b % 32))
 }
 
+/// A shift of a word of 32 bits to the right.
 #[inline(always)]
 pub fn srlw(a: u64, b: u64) -> u64
     ensures { result ≡ srlw a b }
@@ -187,6 +200,7 @@ pub fn srlw(a: u64, b: u64) -> u64
     sext32(low(a) >> (b % 32))
 }
 
+/// A shift of a word of 32 bits to the right that keeps the sign.
 #[inline(always)]
 pub fn sraw(a: u64, b: u64) -> u64
     ensures { result ≡ sraw a b }
@@ -194,6 +208,7 @@ pub fn sraw(a: u64, b: u64) -> u64
     (sext32(a).cast_signed() >> (b % 32)).cast_unsigned()
 }
 
+/// The product of words of 32 bits.
 #[inline(always)]
 pub fn mulw(a: u64, b: u64) -> u64
     ensures { result ≡ mulw a b }
@@ -201,24 +216,28 @@ pub fn mulw(a: u64, b: u64) -> u64
     sext32(a.wrapping_mul(b))
 }
 
+/// `div` on words of 32 bits.
 pub fn divw(a: u64, b: u64) -> u64
     ensures { result ≡ divw a b }
 {
     sext32(div(sext32(a), sext32(b)))
 }
 
+/// `divu` on words of 32 bits.
 pub fn divuw(a: u64, b: u64) -> u64
     ensures { result ≡ divuw a b }
 {
     sext32(divu(low(a), low(b)))
 }
 
+/// `rem` on words of 32 bits.
 pub fn remw(a: u64, b: u64) -> u64
     ensures { result ≡ remw a b }
 {
     sext32(rem(sext32(a), sext32(b)))
 }
 
+/// `remu` on words of 32 bits.
 pub fn remuw(a: u64, b: u64) -> u64
     ensures { result ≡ remuw a b }
 {

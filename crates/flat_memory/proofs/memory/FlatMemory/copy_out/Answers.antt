@@ -1,7 +1,7 @@
-use Rattle.std.proofs.Common.{◌≡◌, ℕ, ◌<◌, length, refl, sym, ap, ◌∙◌, arith, rules, Ok, Err}
+use Rattle.std.proofs.Common.{◌≡◌, ◌<◌, length, refl, sym, ap, ◌∙◌, arith, rules}
 use Rattle.lego_base.specs.Space.{permits}
 use Rattle.flat_memory.specs.Spaces.{space_of, space_at}
-use Rattle.flat_memory.proofs.Spaces.{at-past, at-within, none-permitted, copied-to}
+use Rattle.flat_memory.proofs.Spaces.{in_place, at-past, at-within, none-permitted, copied-to, copied-none}
 use Rattle.flat_memory.proofs.memory.FlatMemory.copy_out.Goals as goal
 
 pub returns-then-index-len : goal.returns-then-index-len
@@ -11,16 +11,16 @@ returns-then-index-len c =
       refl,
     )
 
-pub returns-in-Ok : goal.returns-in-Ok
-returns-in-Ok c =
+pub returns-in-None : goal.returns-in-None
+returns-in-None c =
     let spaces = c.args.self.now.spaces.items in
     let within : c.args.pid.0 < length spaces = omega (arith, c.args.self.now.spaces.ok.0) in
-    let before : space_at spaces c.args.pid.0 ≡ space_of c.index_mut-space.result.now = at-within spaces c.args.pid.0 c.index_mut-space.result.now within ∙ ap space_of (sym c.index_mut-space.ensures.value) in
-    copied-to spaces c.args.pid.0 c.index_mut-space.result.now c.copy_out.new.self c.args.addr c.args.bytes.now (Ok c.in-Ok.field-0) within before c.in-Ok.ensures
+    let some : 0 < length c.args.bytes.now = search rules in
+    copied-none spaces c.args.pid.0 c.index_mut.result.now c.args.addr c.args.bytes.now within some c.index_mut.ensures.value c.in-None.is
 
-pub returns-in-Err : goal.returns-in-Err
-returns-in-Err c =
+pub returns-in-Some : goal.returns-in-Some
+returns-in-Some c =
     let spaces = c.args.self.now.spaces.items in
     let within : c.args.pid.0 < length spaces = omega (arith, c.args.self.now.spaces.ok.0) in
-    let before : space_at spaces c.args.pid.0 ≡ space_of c.index_mut-space.result.now = at-within spaces c.args.pid.0 c.index_mut-space.result.now within ∙ ap space_of (sym c.index_mut-space.ensures.value) in
-    copied-to spaces c.args.pid.0 c.index_mut-space.result.now c.copy_out.new.self c.args.addr c.args.bytes.now (Err c.in-Err.stop) within before c.in-Err.ensures
+    let before : space_at spaces c.args.pid.0 ≡ space_of c.in-Some.space = at-within spaces c.args.pid.0 c.index_mut.result.now within ∙ ap in_place (sym c.index_mut.ensures.value ∙ c.in-Some.is) in
+    copied-to spaces c.args.pid.0 c.in-Some.space c.copy_out.new.self c.args.addr c.args.bytes.now c.copy_out.result within before c.copy_out.ensures

@@ -1,26 +1,28 @@
-use Rattle.std.proofs.Common.{◌≡◌, ℕ, ◌+◌, ◌<◌, ◌++◌, length, replicate, vec_len, cond, eqb, ap, ◌∙◌, arith, rules}
-use Rattle.flat_memory.specs.Entries.{entry_of}
-use Rattle.flat_memory.specs.Frames.{byte_in}
-use Rattle.flat_memory.proofs.Zeros.{grown}
-use Rattle.flat_memory.proofs.Pieces.{byte-same, byte-more, own-byte}
+use Rattle.std.proofs.Common.{◌≡◌, ◌%◌, ◌<◌, ◌^◌, set, sym, subst, ◌∙◌, rules}
+use Rattle.lego_base.specs.Space.{perms_of}
+use Rattle.flat_memory.specs.declared.slot.Slot.{Slot}
+use Rattle.flat_memory.specs.Pieces.{start_in}
+use Rattle.flat_memory.specs.FastPath.{slot_of, IsFast}
+use Rattle.flat_memory.proofs.FastPath.{same-fast, set-fast}
 use Rattle.flat_memory.proofs.space.FlatSpace.own_page.Goals as goal
 
-pub returns-in_err-set-clause-same : goal.returns-in_err-set-clause-same
-returns-in_err-set-clause-same c =
+pub invariant_of-self : goal.invariant_of-self
+invariant_of-self c =
     let s = c.args.self.now in
-    let more : c.resize.new.self.items ≡ s.bytes.items ++ replicate 4096 0 = grown s.bytes.items c.resize.new.self.items (vec_len s.bytes) c.len-start.result 4096 s.bytes.ok.0 (search rules) c.in_ok-resize.ensures.items in
-    ap (λ (f : ℕ → ℕ). record { areas = s.areas; byte = f })
-    (byte-same (entry_of s.table) (entry_of c.set.new.self) c.resize.new.self.items c.in_err-set.ensures.err
-    ∙ ap (byte_in (entry_of s.table)) more
-    ∙ byte-more (entry_of s.table) s.bytes.items 4096)
+    record {
+      pieces = c.own_piece.ensures.pieces;
+      fast = same-fast s.areas (start_in s.starts) (start_in c.own_piece.new.starts) s.slots.items c.in_err-start.ensures.err s.fast;
+    }
 
-pub returns-clause-same : goal.returns-clause-same
-returns-clause-same c =
+pub invariant_of-self-2 : goal.invariant_of-self-2
+invariant_of-self-2 c =
     let s = c.args.self.now in
-    let start : c.len-start.result ≡ length s.bytes.items = search rules in
-    let more : c.resize.new.self.items ≡ s.bytes.items ++ replicate 4096 0 = grown s.bytes.items c.resize.new.self.items (vec_len s.bytes) c.len-start.result 4096 s.bytes.ok.0 start c.in_ok-resize.ensures.items in
-    let none : entry_of s.table c.args.page < 4096 = omega (arith, c.entry-entry.ensures.entry) in
-    let set : c.len-start.result + c.entry-entry.result ≡ length s.bytes.items + entry_of s.table c.args.page = omega (arith, c.entry-entry.ensures.entry) in
-    ap (λ (f : ℕ → ℕ). record { areas = s.areas; byte = f })
-    (ap (byte_in (entry_of c.set.new.self)) more
-    ∙ own-byte (entry_of s.table) (entry_of c.set.new.self) s.areas s.bytes.items c.args.page s.ok none (λ p. c.in_ok-set.ensures.ok p ∙ ap (λ n. cond (eqb p c.args.page) n (entry_of s.table p)) set))
+    let page = c.args.page in
+    let start = start_in c.own_piece.new.starts in
+    let slot : c.new-slot.result ≡ slot_of page (perms_of s.areas page) (start page) = c.new-slot.ensures ∙ (λ i. slot_of page (c.perms_at.ensures i) (c.in_ok-start.ensures.own.1 i)) in
+    let fits : start page < 2 ^ 64 = subst (λ n. n < 2 ^ 64) c.in_ok-start.ensures.own.1 (search rules) in
+    let fast : IsFast s.areas start (set s.slots.items (page % 1024) (slot_of page (perms_of s.areas page) (start page))) = set-fast s.areas (start_in s.starts) start s.slots.items page s.fast c.requires fits c.own_piece.ensures.others in
+    record {
+      pieces = c.own_piece.ensures.pieces;
+      fast = subst (λ (x : Slot). IsFast s.areas start (set s.slots.items (page % 1024) x)) (sym slot) fast;
+    }
