@@ -41,7 +41,7 @@ abbrev pub last_end : List Segment → ℕ → ℕ
 last_end [] page = page * 4096
 last_end (s ∷ segments) page = if has_part s page then max (part_end s page) (last_end segments page) else last_end segments page
 
--- numbers that rise, with one of them, with so many from one on
+-- numbers that rise, with one of them, with n of them starting at one
 abbrev pub with_number : ℕ → List ℕ → List ℕ
 with_number n [] = n ∷ []
 with_number n (m ∷ numbers) =
@@ -72,12 +72,12 @@ load_fills segments = map (page_fill segments) (filled_pages segments)
 
 -- ---- the start stack
 
--- bytes from an address on that lie in so many pages, page by page
+-- bytes starting at an address that lie in n pages, page by page
 abbrev pub cut : ℕ → ℕ → List ℕ → List Effect
 cut zero address bytes = []
 cut (suc pages) address bytes = Fills 1 address (take (4096 - address % 4096) bytes) ∷ cut pages (address + (4096 - address % 4096)) (drop (4096 - address % 4096) bytes)
 
--- the pages that so many bytes from an address on meet
+-- the pages that n bytes starting at an address meet
 abbrev pub pages_met : ℕ → ℕ → ℕ
 pages_met address n = (address + n + 4095) / 4096 - address / 4096
 

@@ -20,7 +20,7 @@ pub data Effect : Type 0 where
   Reads : Kind → ℕ → ℕ → List ℕ → Effect
   -- bytes that a process wrote at an address
   Writes : Kind → ℕ → ℕ → List ℕ → Effect
-  -- an access of so many bytes that isn't permitted
+  -- an access of n bytes that isn't permitted
   Refused : Kind → ℕ → ℕ → ℕ → Effect
   -- the registers of a process
   Goes : ℕ → Cpu → Effect
@@ -32,7 +32,7 @@ pub data Effect : Type 0 where
   Makes : FileOut → Effect
   -- a new process without a parent
   Starts : ℕ → Cpu → Effect
-  -- so many bytes of standard input are taken
+  -- n bytes of standard input are taken
   Takes : ℕ → Effect
   -- bytes for standard output or standard error
   Puts : Stream → List ℕ → Effect

@@ -55,7 +55,7 @@ goes_on Next r rest = behind r.effects rest
 goes_on Call r rest = r
 goes_on (Dead signal) r rest = r
 
--- at most so many instructions
+-- at most n instructions
 abbrev pub many : ℕ → ℕ → Cpu → Space → Ran
 many zero pid cpu space = record { effects = []; stop = Next; cpu = cpu; space = space }
 many (suc n) pid cpu space = goes_on (one pid cpu space).stop (one pid cpu space) (many n pid (one pid cpu space).cpu (one pid cpu space).space)

@@ -35,7 +35,7 @@ abbrev pub on : Stream → List ℕ → Written
 on Out bytes = record { out = bytes; err = [] }
 on Err bytes = record { out = []; err = bytes }
 
--- on each stream the one behind the other
+-- on each stream the one after the other
 abbrev pub joined : Written → Written → Written
 joined first second = record { out = first.out ++ second.out; err = first.err ++ second.err }
 

@@ -54,12 +54,12 @@ whose schedule n procs (pid ∷ pids) = process procs (chosen schedule n (pid �
 abbrev pub turn : Schedule → ℕ → Kernel → List Effect
 turn schedule n k = turn_of schedule (whose schedule n k.procs (ready k.procs)) k
 
--- the flat run: the kernel after so many turns
+-- the flat run: the kernel after n turns
 unfoldable pub flat : Schedule → Kernel → ℕ → Kernel
 flat schedule boot zero = boot
 flat schedule boot (suc n) = applies (turn schedule (suc n) (flat schedule boot n)) (flat schedule boot n)
 
--- all effects of so many turns, in order
+-- all effects of n turns, in order
 unfoldable pub flat_effects : Schedule → Kernel → ℕ → List Effect
 flat_effects schedule boot zero = []
 flat_effects schedule boot (suc n) = flat_effects schedule boot n ++ turn schedule (suc n) (flat schedule boot n)

@@ -197,7 +197,7 @@ no_clock = record { begun = false; turn = 0; since = 0; passed = 0 }
 abbrev pub IsTurnOver : Track → Type 0
 IsTurnOver t = (is_idle t.healing t.current ≡ true) × (is_turn_end t.due ≡ true)
 
--- The moment of an entry of the crash list, where the clock is this: its turn, after so many deliveries of it, or at
+-- The moment of an entry of the crash list, where the clock is this: its turn, after this many deliveries of it, or at
 -- the turn's end where there were fewer.
 pub record IsMoment (t : Track) (clock : Clock) (number : ℕ) : Type 0 where
   pub entry : CrashAt

@@ -25,7 +25,7 @@ ask to body = record { to = to; body = body }
 abbrev pub twice : ℕ → ℕ → Body → Body → List Ask
 twice n owner spare main = ask (memory (secondary_of n owner)) spare ∷ ask (memory owner) main ∷ []
 
--- each of so many memories from one on, then storage
+-- each of n memories starting at one, then storage
 abbrev pub each_from : ℕ → ℕ → Body → Body → List Ask
 each_from zero number body last = ask place.Storage last ∷ []
 each_from (suc n) number body last = ask (memory number) body ∷ each_from n (number + 1) body last

@@ -69,7 +69,7 @@ read_row s m pid line = answers s m (line_answer (perms_of (areas_at s.main.area
 abbrev pub write_row : Mem → Message → Patch → Mem × List Message
 write_row s m patch = within_frames s (record s { pages = patched patch s.pages }) m Wrote
 
--- the patch goes behind the log, where it has room
+-- the patch goes to the end of the log, where it has room
 abbrev pub log_row : Mem → Message → Patch → Mem × List Message
 log_row s m patch = if nat_lt (length s.log) s.log_room then batched (record s { log = s.log ++ patch ∷ [] }) (reply (memory s.id) m Wrote ∷ []) else answers s m LogFull
 

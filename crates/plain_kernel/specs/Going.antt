@@ -8,14 +8,14 @@ use Rattle.kernel_model.specs.Turns.{Schedule, turn, flat, ended, is_unbuilt_tur
 use Rattle.plain_kernel.specs.Outcomes.{Told, Wrote, Stopped}
 use Rattle.plain_kernel.specs.Runs.{GoesOn}
 
--- the run went to its end, after so many turns
+-- the run went to its end, after n turns
 pub record Finished (old_told new_told : Told) (start now : Written → Kernel) (schedule : Schedule) (end : Ended) : Type 0 where
   pub few : end.turns ≤ schedule.max_turns
   pub wrote : Wrote old_told new_told start now (λ k. flat schedule k end.turns)
   pub ends : (written : Written) → ended schedule end.turns (flat schedule (start written) end.turns) ≡ Some end.word
   pub before : (m : ℕ) → m < end.turns → (written : Written) → GoesOn schedule (start written) m
 
--- the run stopped in the turn after so many
+-- the run stopped in the turn after n
 pub record Broken (old_told new_told : Told) (start : Written → Kernel) (schedule : Schedule) (stop : CallStop) : Type 0 where
   pub turns : ℕ
   pub few : turns < schedule.max_turns

@@ -23,7 +23,7 @@ pub record Took (old new : Told) (written : Written) : Type 0 where
   pub err : TookAll old.err new.err written.err
 
 -- It happened whole: the sinks took a piece, and the machine stands for what the function makes of the kernel, with
--- this piece behind what was written before.
+-- this piece after what was written before.
 pub record Wrote (old_told new_told : Told) (old new : Written → Kernel) (f : Kernel → Kernel) : Type 0 where
   pub piece : Written
   pub took : Took old_told new_told piece
@@ -63,7 +63,7 @@ pub record Later (before now : Faults) : Type 0 where
   pub out : before.out ≤ now.out
   pub err : before.err ≤ now.err
 
--- why it stopped: for want of memory, or by a fault of a sink, which only comes where its count rose
+-- why it stopped: for lack of memory, or by a fault of a sink, which only comes where its count rose
 abbrev pub Cause : Faults → Faults → CallStop → Type 0
 Cause before now (Halt halt) = halt ≡ NoMemory
 Cause before now OutFault = Rose before.out now.out

@@ -14,12 +14,12 @@ use Rattle.plain_kernel.specs.Outcomes.{Told, Took}
 abbrev pub schedule_of : Plan → Schedule
 schedule_of plan = record { turns = plan.turns; quantum = plan.quantum; max_turns = plan.max_turns }
 
--- the run goes on after so many turns, and its next turn comes to no call that isn't built
+-- the run goes on after n turns, and its next turn comes to no call that isn't built
 pub record GoesOn (schedule : Schedule) (boot : Kernel) (turns : ℕ) : Type 0 where
   pub not_ended : ended schedule turns (flat schedule boot turns) ≡ None
   pub built : is_unbuilt_turn schedule (suc turns) (flat schedule boot turns) ≡ false
 
--- The flat run on this kernel went through so many turns, and went on after each of those before.
+-- The flat run on this kernel went through n turns, and went on after each of those before.
 pub record Through (schedule : Schedule) (boot : Kernel) (turns : ℕ) : Type 0 where
   pub few : turns ≤ schedule.max_turns
   pub before : (m : ℕ) → m < turns → GoesOn schedule boot m
@@ -29,7 +29,7 @@ pub record EndsAfter (schedule : Schedule) (boot : Kernel) (turns : ℕ) (word :
   pub through : Through schedule boot turns
   pub ends : ended schedule turns (flat schedule boot turns) ≡ Some word
 
--- It goes into one turn more after so many.
+-- It goes into one turn more after n.
 pub record GoesInto (schedule : Schedule) (boot : Kernel) (turns : ℕ) : Type 0 where
   pub through : Through schedule boot turns
   pub more : turns < schedule.max_turns
@@ -42,13 +42,13 @@ pub record Ends (schedule : Schedule) (boot : Kernel) (before after : Told) (end
   pub exits : end.exits ≡ (flat schedule boot end.ended.turns).exits
   pub files : end.files ≡ (flat schedule boot end.ended.turns).files
 
--- it stopped after so many turns: the streams have taken what the flat run wrote in these
+-- it stopped after n turns: the streams have taken what the flat run wrote in these
 pub record Stops (schedule : Schedule) (boot : Kernel) (before after : Told) : Type 0 where
   pub turns : ℕ
   pub through : Through schedule boot turns
   pub took : Took before after (flat schedule boot turns).written
 
--- it stopped at a call that isn't built, in the turn after so many
+-- it stopped at a call that isn't built, in the turn after n
 pub record StopsAtCall (schedule : Schedule) (boot : Kernel) (before after : Told) : Type 0 where
   pub turns : ℕ
   pub into : GoesInto schedule boot turns

@@ -1,3 +1,5 @@
+//! The system calls that are built, by number.
+
 ghost use Rattle.std.specs.Prelude.{◌≡◌, Some, IfErr};
 ghost use Rattle.kernel_model.specs.Calls.{exit_row};
 ghost use Rattle.plain_kernel.specs.Made.{end_of};

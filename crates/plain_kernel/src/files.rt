@@ -1,3 +1,5 @@
+//! Copies of the files of a run.
+
 ghost use Rattle.std.specs.Prelude.{◌≡◌, IfOk};
 
 use lego_base::{FileOut, NoMemory};

@@ -1,3 +1,5 @@
+//! Standard input, read before the run.
+
 use lego_base::Bytes;
 use std::marker::Model;
 
@@ -29,7 +31,7 @@ impl Input {
         Input { bytes, left }
     }
 
-    /// The first bytes left, at most so many.
+    /// The first bytes left, at most `most` of them.
     pub fn front(&self, most: u64) -> &[u8]
         ensures { result.now ≡ take (min most (length self.now)) self.now }
     {
@@ -38,7 +40,7 @@ impl Input {
         front
     }
 
-    /// Takes so many first bytes.
+    /// Drops the first `count` bytes.
     pub fn take(&mut self, count: usize)
         requires { count ≤ length self.old }
         ensures { self.new ≡ drop count self.old }

@@ -5,13 +5,13 @@
 //! those of the flat run.
 #![tactic(auto)]
 
-mod calls; // which call a process makes, and what it comes to
-mod files; // copies of files
-mod input; // what is left of standard input
-mod instructions; // the instructions of a turn
-mod load; // booting with an image
-mod machine; // the machine and its turns
-mod run; // whole runs
-mod streams; // descriptors, read and write
+mod calls;
+mod files;
+mod input;
+mod instructions;
+mod load;
+mod machine;
+mod run;
+mod streams;
 
 pub use run::{PlainEnd, plain_run};

@@ -1,3 +1,5 @@
+//! Booting: the image and the start stack in a space.
+
 ghost use Rattle.std.specs.Prelude.{◌≡◌, ◌+◌, ◌≤◌, ◌^◌, ◌∷◌, length, replicate, IfOk, OnOk, All, false};
 ghost use Rattle.elf_image.specs.Image.{IsBoundedSegment};
 ghost use Rattle.flat_memory.specs.Spaces.{spaces_of};

@@ -1,3 +1,5 @@
+//! The plain machine: process 1 with its memory and streams.
+
 ghost use Rattle.std.specs.Prelude.{◌≡◌, ℕ, [], ◌∷◌, Some, IsSome, IfOk, OnOk, IfErr};
 ghost use Rattle.rv64_step.specs.Meaning.{with_reg, next_pc};
 

@@ -1,3 +1,5 @@
+//! The run: turn after turn, to its end.
+
 ghost use Rattle.std.specs.Prelude.{◌≡◌, false, IfOk, IfErr};
 ghost use Rattle.kernel_model.specs.Boot.{boot_of};
 ghost use Rattle.plain_kernel.specs.Outcomes.{told, faults, Later, Cause};
@@ -22,7 +24,7 @@ pub struct PlainEnd {
 /// Runs an image as a description asks: with its arguments, environment, turns, quantum and most turns,
 /// with these files and this on standard input.
 ///
-/// A fault of a stream stops the run within the turn that wrote; want of memory may stop it anywhere.
+/// A fault of a stream stops the run within the turn that wrote; lack of memory may stop it anywhere.
 pub fn plain_run<O: Sink, E: Sink>(
     alloc: Global,
     plan: &Plan,

@@ -1,3 +1,5 @@
+//! `read` and `write`.
+
 ghost use Rattle.std.specs.Prelude.{◌≡◌, ◌≢◌, ◌≤◌, ℕ, IfErr, Some, [], MatchOption};
 ghost use Rattle.kernel_model.specs.State.{Kernel};
 ghost use Rattle.kernel_model.specs.Calls.{Gives, EBADF, opened, counted, write_to};
