@@ -14,6 +14,8 @@ mod hi_file;
 #[cfg(test)]
 mod images;
 #[cfg(test)]
+mod messages;
+#[cfg(test)]
 mod reports;
 #[cfg(test)]
 mod stacks;

@@ -1,7 +1,5 @@
 -- Completions. An operation is complete where each target has answered since its last crash and no message of it is
 -- pending; nothing else may come there, so its completion comes at the first such point.
-
--- the number of the operation that is complete, a move of healing first
 use Rattle.std.specs.Prelude.{◌≡◌, ◌==◌, if◌then◌else◌, [], ◌∷◌, ℕ, List, None, Option, Some, false}
 use Rattle.lego_base.specs.Keys.{is_of, without}
 use Rattle.lego_base.specs.declared.ids.OpNo.{OpNo}
@@ -22,6 +20,7 @@ use Rattle.lego_msg.specs.declared.operation.Operation.TheVariants.{Drops, Reads
 use Rattle.lego_msg.specs.declared.place.Place.{Place}
 use Rattle.lego_msg.specs.declared.place.Place.TheVariants.{Manager, Memory, Processor, Storage}
 
+-- the number of the operation that is complete, a move of healing first
 abbrev pub done_or : List Message → Option Open → Option OpNo → Option OpNo
 done_or pending None else_ = else_
 done_or pending (Some o) else_ = if is_complete pending o then Some o.number else else_

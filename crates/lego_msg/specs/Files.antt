@@ -1,12 +1,11 @@
 -- The files of a machine, as storage holds them and as the plain map has them.
-
--- most files that there may be, those without a name counted
 use Rattle.std.specs.Prelude.{◌+◌, ◌*◌, if◌then◌else◌, [], ◌∷◌, ◌++◌, ℕ, Bool, List, None, Option, Some, drop, length, nat_le, nat_lt, take}
 use Rattle.lego_base.specs.Files.{File, blocks_needed, file_bytes, has_name, named, with_file_bytes, with_name, without_file, without_name}
 use Rattle.lego_base.specs.Pieces.{of_size, written_at, zeros}
 use Rattle.lego_base.specs.declared.ids.FileNo.{FileNo}
 use Rattle.lego_base.specs.declared.records.NameEntry.{NameEntry}
 
+-- most files that there may be, those without a name counted
 abbrev pub FILES_MOST : ℕ
 FILES_MOST = 1024
 

@@ -1,6 +1,4 @@
 -- What a caller owes where an operation begins: of the owners of regions, of the plain map, and of the logs.
-
--- a patch has bytes, and they lie in its page
 use Rattle.std.specs.List.{AllByRecursion}
 use Rattle.std.specs.Prelude.{◌≡◌, ◌+◌, ◌*◌, ◌/◌, ◌<◌, ◌≤◌, ◌==◌, ◌&&◌, ◌||◌, [], ◌∷◌, ℕ, Bool, IsSome, List, None, Some, false, length, slice_get, true}
 use Rattle.lego_base.specs.Files.{is_file}
@@ -22,6 +20,7 @@ use Rattle.lego_msg.specs.declared.operation.Operation.{Operation}
 use Rattle.lego_msg.specs.declared.operation.Operation.TheVariants.{AsksAreas, AsksSize, Copies, CutsFile, Drops, Reads, ReadsFile, SetsAreas, SetsHome, Unmaps, Writes, WritesFile}
 use Rattle.lego_msg.specs.declared.place.Place.{Place}
 
+-- a patch has bytes, and they lie in its page
 abbrev pub PatchFits : Patch → Type 0
 PatchFits p = (0 < length p.bytes) × (p.off + length p.bytes ≤ 4096)
 

@@ -1,7 +1,5 @@
 -- Which event may come next, and which lists of events are legal. A list that is cut off is legal too: each of
 -- its events is where it may be, and what must follow the last one may be missing.
-
--- this event may come next
 use Rattle.std.specs.Prelude.{◌≡◌, ◌/◌, [], ◌∷◌, List, false, is_some, true}
 use Rattle.lego_msg.specs.Completions.{MayComplete}
 use Rattle.lego_msg.specs.Crashes.{MayCrash}
@@ -13,6 +11,7 @@ use Rattle.lego_msg.specs.Track.{Track, is_crash_left}
 use Rattle.lego_msg.specs.declared.event.Event.{Event}
 use Rattle.lego_msg.specs.declared.event.Event.TheVariants.{Access, Complete, Crash, Deliver, Drop, Fill, Out, Send, Turn}
 
+-- this event may come next
 abbrev pub May : Track → Event → Type 0
 May t (Turn number pid) = MayShow t (Turn number pid) × (is_crash_left t ≡ false)
 May t (Access cpu pid address kind bytes) = MayShow t (Access cpu pid address kind bytes) × InLine (t.caches.line cpu.0 pid.0 (address / 64)) address kind bytes

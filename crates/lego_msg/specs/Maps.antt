@@ -1,6 +1,4 @@
 -- What components list: owners of regions, areas of regions, and pages. Each is a finite map by process and number.
-
--- HOMES: which memory owns a region
 use Rattle.std.specs.Prelude.{◌==◌, ◌&&◌, if◌then◌else◌, [], ◌∷◌, ℕ, List, None, Option, Some, map}
 use Rattle.lego_base.specs.Keys.{Key, find, is_at, is_page_of, key_at, put, put_all, those, without}
 use Rattle.lego_base.specs.Pieces.{laid_over, zeros}
@@ -14,6 +12,7 @@ use Rattle.lego_base.specs.declared.records.Patch.{Patch}
 use Rattle.lego_base.specs.declared.records.SpaceAreas.{SpaceAreas}
 use Rattle.lego_msg.specs.Places.{memory}
 
+-- HOMES: which memory owns a region
 abbrev pub home_key : HomeEntry → Key
 home_key e = key_at e.pid.0 e.region.0
 

@@ -1,7 +1,5 @@
 -- What is still to come in a run, as a list of marks: operations that are called for, and events that are to be
 -- shown. One list has the order of all of them.
-
--- an operation that is called for
 use Rattle.std.specs.Prelude.{[], ◌∷◌, Bool, List, false, true}
 use Rattle.lego_base.specs.declared.records.HomeEntry.{HomeEntry}
 use Rattle.lego_msg.specs.declared.event.Event.{Event}
@@ -9,6 +7,7 @@ use Rattle.lego_msg.specs.declared.event.Event.TheVariants.{Turn}
 use Rattle.lego_msg.specs.declared.operation.Operation.{Operation}
 use Rattle.lego_msg.specs.declared.place.Place.{Place}
 
+-- an operation that is called for
 pub record Order : Type 0 where
   -- who issues it: the processor of the process, or the manager
   pub by : Place

@@ -1,6 +1,4 @@
 -- What each operation sends first, in order, and who must answer.
-
--- a body, and where it goes
 use Rattle.std.specs.Prelude.{◌+◌, [], ◌∷◌, ◌++◌, ℕ, Bool, List, None, Option, Some, false, suc, true, zero}
 use Rattle.lego_base.specs.declared.ids.OpNo.{OpNo}
 use Rattle.lego_base.specs.declared.records.Patch.{Patch}
@@ -14,6 +12,7 @@ use Rattle.lego_msg.specs.declared.place.Role.TheVariants.{Main, Spare}
 use Rattle.lego_msg.specs.declared.body.Body.TheVariants as body
 use Rattle.lego_msg.specs.declared.place.Place.TheVariants as place
 
+-- a body, and where it goes
 pub record Ask : Type 0 where
   pub to : Place
   pub body : Body

@@ -1,6 +1,4 @@
 -- What an answer tells its caller, of the plain map before the operation.
-
--- making a name: the file that has it then, or a refusal where there are as many files as there may be
 use Rattle.std.specs.Prelude.{◌≡◌, ◌/◌, if◌then◌else◌, None, Option, Some, length}
 use Rattle.lego_base.specs.Files.{file_bytes, named}
 use Rattle.lego_base.specs.Pieces.{piece}
@@ -16,6 +14,7 @@ use Rattle.lego_msg.specs.declared.operation.Operation.{Operation}
 use Rattle.lego_msg.specs.declared.operation.Operation.TheVariants.{AsksAreas, AsksSize, Finds, GetsName, ListsNames, MakesName, Reads, ReadsFile}
 use Rattle.lego_msg.specs.declared.place.Why.TheVariants as why
 
+-- making a name: the file that has it then, or a refusal where there are as many files as there may be
 abbrev pub made_reply : Option FileNo → Files → Body
 made_reply (Some file) f = NameIs (Some file)
 made_reply None f = if is_file_room f then NameIs (Some (record { 0 = f.next })) else Refused why.NoRoom

@@ -1,6 +1,4 @@
 -- What a call shows: the form of the clauses of all that makes events happen. `told` and `faults` are a watch's.
-
--- One event happened, which might come where it did. It was shown, and led from this track to that one.
 use Rattle.std.specs.Prelude.{◌≡◌, [], ◌∷◌, ℕ, List, Option, Some, slice_get}
 use Rattle.lego_base.specs.declared.shape.Shape.{Shape}
 use Rattle.lego_base.specs.declared.stops.Halt.{Halt}
@@ -16,6 +14,7 @@ use Rattle.lego_msg.specs.declared.place.Place.TheVariants.{Memory, Storage}
 use Rattle.lego_base.specs.declared.stops.Halt.TheVariants as halt
 use Rattle.lego_msg.specs.declared.place.Why.TheVariants as why
 
+-- One event happened, which might come where it did. It was shown, and led from this track to that one.
 pub record Came {W : Type 0} (told : W → Option (List Event)) (faults : W → ℕ) (old new : W) (t t' : Track) : Type 0 where
   pub event : Event
   pub shown : ShownTo told faults old new (event ∷ [])

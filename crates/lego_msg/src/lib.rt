@@ -2,9 +2,9 @@
 //! as definitions, which lists of events a split run may show.
 //!
 //! Contracts see messages and events as plain values, lists as lists. `specs/Table` is the message table,
-//! `specs/Track` what a list of events determines, `specs/Run` and `specs/Legal` how it goes on, `specs/Rest` what ties
-//! the components to the plain map, `specs/CacheRule` the caches' rule. The laws that a reader may ask for are stated
-//! at the functions of `laws`; docs/SPLIT.md explains all of it. `specs/Watching` has the watch's promise.
+//! `specs/Track` what a list of events determines, `specs/Run` and `specs/Legal` how it goes on, `specs/Watching` the
+//! watch's promise. The laws that a reader may ask for are stated at the functions of `laws`; docs/SPLIT.md explains all
+//! of it. What ties the components to the plain map is in lego_rest, the caches' rule in cache_tags.
 #![tactic(auto)]
 
 mod body;
@@ -41,6 +41,3 @@ pub use operation::{Answer, Open, Operation, Origin};
 pub use outbox::Outbox;
 pub use place::{Place, Role, Why};
 pub use watch::Watch;
-
-#[cfg(test)]
-mod tests;

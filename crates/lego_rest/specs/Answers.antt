@@ -1,6 +1,4 @@
 -- Who has answered the open operation: the answer was noted, or it is pending.
-
--- all that is pending or still to be sent by who got the last message
 use Rattle.std.specs.Prelude.{◌==◌, ◌&&◌, ◌||◌, if◌then◌else◌, [], ◌∷◌, ◌++◌, ℕ, Bool, List, None, Option, Some, false, not}
 use Rattle.lego_base.specs.declared.records.Patch.{Patch}
 use Rattle.lego_msg.specs.Deliveries.{stops}
@@ -16,6 +14,7 @@ use Rattle.lego_rest.specs.Parts.{Areas, Cell, Home, Page}
 use Rattle.lego_msg.specs.declared.body.Body.TheVariants as body
 use Rattle.lego_msg.specs.declared.place.Place.TheVariants as place
 
+-- all that is pending or still to be sent by who got the last message
 abbrev pub all_pending : Track → List Message
 all_pending t = t.net ++ t.owed
 

@@ -1,7 +1,4 @@
 -- What components, the plain map and the machine are by themselves, at every moment.
-
--- THE MACHINE: at least two memories, so that a memory is never its own secondary; a log has room for a patch; each entry
--- of the crash list is of a memory that is there, and of a later turn than the one before it.
 use Rattle.std.specs.List.{AllByRecursion}
 use Rattle.std.specs.Prelude.{◌≡◌, ◌⊎◌, ◌/◌, ◌<◌, ◌≤◌, ◌==◌, ◌&&◌, ◌||◌, if◌then◌else◌, [], ◌∷◌, ◌++◌, ℕ, Bool, List, None, Option, Some, false, length, take, true}
 use Rattle.lego_base.specs.Files.{file_bytes, is_file}
@@ -34,6 +31,8 @@ use Rattle.lego_rest.specs.Pending.{Says}
 use Rattle.lego_msg.specs.declared.body.Body.TheVariants as body
 use Rattle.lego_msg.specs.declared.place.Place.TheVariants as place
 
+-- THE MACHINE: at least two memories, so that a memory is never its own secondary; a log has room for a patch; each entry
+-- of the crash list is of a memory that is there, and of a later turn than the one before it.
 abbrev pub CrashesRise : List CrashAt → Type 0
 CrashesRise [] = Unit {0}
 CrashesRise (e ∷ []) = Unit {0}

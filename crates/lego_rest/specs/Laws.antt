@@ -1,6 +1,4 @@
 -- The first laws of the two relations.
-
--- Before the first event all is at rest, where the machine is in form.
 use Rattle.std.specs.Prelude.{◌≡◌, List, None, false}
 use Rattle.lego_base.specs.declared.shape.Shape.{Shape}
 use Rattle.lego_msg.specs.Marks.{Mark}
@@ -8,6 +6,7 @@ use Rattle.lego_msg.specs.Track.{Caches, Track, start}
 use Rattle.lego_rest.specs.Fits.{MachineFits}
 use Rattle.lego_rest.specs.Rest.{AtRest, Middle}
 
+-- Before the first event all is at rest, where the machine is in form.
 abbrev pub StartRests : Type 0
 StartRests = (shape : Shape) (due : List Mark) → MachineFits shape → AtRest (start shape due)
 

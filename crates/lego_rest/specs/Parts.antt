@@ -1,6 +1,4 @@
 -- What components and the plain map are compared by: cells, and what each component keeps of them.
-
--- a cell: the owner of a region as its home knows it, the areas of a region, a page that is there or not
 use Rattle.std.specs.Prelude.{◌≡◌, ◌⊎◌, ◌/◌, ◌==◌, if◌then◌else◌, [], ℕ, Bool, List, None, Option, Some, false, true}
 use Rattle.lego_base.specs.declared.ids.MemId.{MemId}
 use Rattle.lego_base.specs.declared.records.Area.{Area}
@@ -13,6 +11,7 @@ use Rattle.lego_msg.specs.State.{Kept, Mem}
 use Rattle.lego_msg.specs.Track.{Track, memory_count}
 use Rattle.lego_msg.specs.declared.operation.Open.{Open}
 
+-- a cell: the owner of a region as its home knows it, the areas of a region, a page that is there or not
 pub data Cell : Type 0 where
   Home : ℕ → ℕ → Cell
   Areas : ℕ → ℕ → Cell

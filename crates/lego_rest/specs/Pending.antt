@@ -1,6 +1,4 @@
 -- What may be pending, or still to be sent by who got the last message.
-
--- a memory isn't the one that is lost
 use Rattle.std.specs.Prelude.{◌≡◌, ◌⊎◌, ◌<◌, ◌==◌, [], ◌∷◌, ℕ, List, None, Option, Some, false, true}
 use Rattle.lego_base.specs.Files.{file_bytes}
 use Rattle.lego_base.specs.declared.records.Patch.{Patch}
@@ -21,6 +19,7 @@ use Rattle.lego_msg.specs.declared.body.Body.TheVariants as body
 use Rattle.lego_msg.specs.declared.place.Place.TheVariants as place
 use Rattle.lego_msg.specs.declared.place.Why.TheVariants as why
 
+-- a memory isn't the one that is lost
 abbrev pub IsUp : Option ℕ → ℕ → Type 0
 IsUp None m = Unit {0}
 IsUp (Some c) m = c ≡ m → ⊥

@@ -1,6 +1,4 @@
 -- Deliveries lower the load.
-
--- the weights of a list, with other memories
 use Rattle.std.proofs.Common.{◌≡◌, ◌+◌, ◌-◌, ◌*◌, ◌<◌, ◌≤◌, [], ◌∙◌, ℕ, Bool, List, None, Option, Some, ap, arith, cond, eqb, false, length, refl, slice_get, sym, true}
 use Rattle.std.proofs.lemmas.List.{places}
 use Rattle.std.specs.Prelude.{slice_set}
@@ -28,6 +26,7 @@ use Rattle.lego_waits.proofs.Weights.{full_kept, weighs, weight_most, weight_sam
 use Rattle.lego_waits.specs.Laws.{AreInPlace}
 use Rattle.lego_waits.specs.Measure.{healings_left, held, is_full, is_open, log_length, mem_weight, moves_left, pending_weight, pick, total, unsent_of, unsent_weight, waiting, way, way_of, weight_of}
 
+-- the weights of a list, with other memories
 list_same : (mems mems' : List Mem) (k : ℕ) (ms : List Message) → ((p : Place) → is_full mems' p ≡ is_full mems p) → total (λ (m : Message). 2 * weight_of mems' m m.body + k) ms ≡ total (λ (m : Message). 2 * weight_of mems m m.body + k) ms
 list_same mems mems' k ms same = total-same (λ (m : Message). 2 * weight_of mems' m m.body + k) (λ (m : Message). 2 * weight_of mems m m.body + k) ms (λ m. ap (λ (w : ℕ). 2 * w + k) (weight_same mems mems' m m.body same))
 

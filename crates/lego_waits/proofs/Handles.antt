@@ -1,7 +1,4 @@
 -- What a memory does with a message, as the measure sees it: one lemma a row of the message table.
-
--- WHAT A MEMORY DOES: the weights fall; or its log gets shorter; or a patch stays in it. `a` is the weight of the message that
--- it got, `k` whether a patch goes round with it.
 use Rattle.std.proofs.Common.{◌≡◌, ◌+◌, ◌-◌, ◌*◌, ◌/◌, ◌<◌, ◌≤◌, ◌&&◌, ◌||◌, [], ◌∷◌, ◌++◌, ◌∙◌, ℕ, Bool, List, None, Option, Some, ap, arith, cond, drop, eqb, false, length, length-append, ltb, map, nat_le, refl, slice_get, subst, suc, sym, true, zero}
 use Rattle.std.proofs.lemmas.Bool.{eq-eqb, eqb-true, le-leb, lt-leb, ltb-false}
 use Rattle.std.proofs.lemmas.List.{length-drop}
@@ -31,6 +28,8 @@ use Rattle.lego_waits.proofs.Weights.{weighs}
 use Rattle.lego_waits.specs.Measure.{is_full, log_full, may_start, mem_weight, pick, total, unsent_weight, way, way_of, weight_of}
 use Rattle.lego_msg.specs.declared.place.Why.TheVariants as why
 
+-- WHAT A MEMORY DOES: the weights fall; or its log gets shorter; or a patch stays in it. `a` is the weight of the message that
+-- it got, `k` whether a patch goes round with it.
 pub data Handles (mems : List Mem) (i : ℕ) (s : Mem) (a k : ℕ) (s' : Mem) (out : List Message) : Type 0 where
   Lighter : log_full (Some s') ≡ log_full (Some s) → length s'.log ≤ length s.log → total way out + length s'.drains ≤ k + length s.drains → total (unsent_weight mems) out + mem_weight s' < 2 * a + mem_weight s → Handles mems i s a k s' out
   Shorter : length s'.log < length s.log → total way out + length s'.drains ≤ k + length s.drains → total (unsent_weight (slice_set mems i s')) out + mem_weight s' ≤ 19 * length s.drains + 10 → Handles mems i s a k s' out

@@ -1,6 +1,4 @@
 -- Weights of messages: bounds, and what they depend on.
-
--- WEIGHTS of messages, whatever the memories hold: none is 0, and only those of patches that go round depend on them
 use Rattle.std.proofs.Common.{◌≡◌, ◌+◌, ◌*◌, ◌≤◌, ◌∙◌, ℕ, Bool, List, Some, ap, arith, eqb, false, refl, slice_get, subst, sym, true}
 use Rattle.std.proofs.lemmas.Bool.{eq-eqb, eqb-true}
 use Rattle.std.specs.Prelude.{slice_set}
@@ -13,6 +11,7 @@ use Rattle.lego_msg.specs.declared.place.Place.{Place}
 use Rattle.lego_msg.specs.declared.place.Place.TheVariants.{Manager, Memory, Processor, Storage}
 use Rattle.lego_waits.specs.Measure.{is_full, log_full, pick, way_of, weight_of}
 
+-- WEIGHTS of messages, whatever the memories hold: none is 0, and only those of patches that go round depend on them
 pub pick_from : (x : Bool) (k a b : ℕ) → k ≤ a → k ≤ b → k ≤ pick x a b
 pick_from true k a b e f = e
 pick_from false k a b e f = f

@@ -1,6 +1,4 @@
 -- No wait is for ever.
-
--- nothing is owed, open, healing or due: only what is called for, or shown, may come
 use Rattle.std.specs.Prelude.{◌≡◌, ◌+◌, ◌<◌, ◌≤◌, ◌==◌, ◌&&◌, ◌||◌, [], ◌∷◌, ℕ, Bool, List, false, is_some, length, not}
 use Rattle.lego_base.specs.declared.ids.MemId.{MemId}
 use Rattle.lego_base.specs.declared.shape.Shape.{Shape}
@@ -13,6 +11,7 @@ use Rattle.lego_msg.specs.declared.event.Event.{Event}
 use Rattle.lego_msg.specs.declared.event.Event.TheVariants.{Crash}
 use Rattle.lego_waits.specs.Measure.{load}
 
+-- nothing is owed, open, healing or due: only what is called for, or shown, may come
 abbrev pub is_busy : Track → Bool
 is_busy t = not (length t.owed == 0) || is_some t.current || is_some t.healing
 

@@ -1,8 +1,10 @@
-//! Worked examples.
+//! Events that watches hold, and what judges say of lists of events.
 
-use super::*;
 use lego_base::{
     Area, HomeEntry, MemId, NoMemory, OpNo, Perms, Pid, RegionNo, Seq, SpaceAreas, Vpn,
+};
+use lego_msg::{
+    Body, Event, ListWatch, Message, Place, Role, Watch, Why, has_answered, is_complete, picked,
 };
 use std::alloc::Global;
 use std::test::Fail;

@@ -1,0 +1,5 @@
+pub mod Lookup
+pub mod Rising
+pub mod Net
+pub mod Moving
+pub mod Around

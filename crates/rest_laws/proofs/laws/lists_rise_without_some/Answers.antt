@@ -1,0 +1,5 @@
+use Rattle.rest_laws.proofs.Rising.{without-rises}
+use Rattle.rest_laws.proofs.laws.lists_rise_without_some.Goals as goal
+
+pub returns : goal.returns
+returns c = without-rises

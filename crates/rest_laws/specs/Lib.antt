@@ -1,0 +1,5 @@
+pub mod Lists
+pub mod Order
+pub mod Nets
+pub mod Moves
+pub mod Around

@@ -1,0 +1,87 @@
+//! Laws of lists, of pending messages and of parts: each is the contract of a function.
+
+ghost use Rattle.rest_laws.specs.Lists.{FindPut, FindWithout, AreasWith, PagePatched, PageOverlaid};
+ghost use Rattle.rest_laws.specs.Nets.{TakesOne, AnyTaken, BackgroundTaken, AnySent, BackgroundSent};
+ghost use Rattle.rest_laws.specs.Moves.{SetsMove, HoldsMove};
+ghost use Rattle.rest_laws.specs.Order.{PutRises, WithoutRises};
+ghost use Rattle.rest_laws.specs.Around.{SecondariesDiffer, GuardsItsOwn};
+
+/// An entry that is put is found under its key.
+pub fn entries_are_found_where_put()
+    ensures { FindPut }
+{}
+
+/// What is taken out is not found.
+pub fn entries_that_go_are_not_found()
+    ensures { FindWithout }
+{}
+
+/// A region has the areas that were set.
+pub fn areas_are_those_set()
+    ensures { AreasWith }
+{}
+
+/// A patch changes its page alone.
+pub fn patches_change_their_page()
+    ensures { PagePatched }
+{}
+
+/// Patches laid over pages change each page in their order.
+pub fn overlaid_pages_are_patched_in_order()
+    ensures { PageOverlaid }
+{}
+
+/// The delivery list takes one message out of those that are pending.
+pub fn a_delivery_takes_one_out()
+    ensures { TakesOne }
+{}
+
+/// What is asked of any pending message is asked of the one that is delivered, or of the others.
+pub fn questions_of_the_others_stay()
+    ensures { AnyTaken }
+{}
+
+/// A memory's batch on its way, or its receipt, stays where another message is delivered, and goes where it is itself.
+pub fn batches_stay_until_they_are_delivered()
+    ensures { BackgroundTaken }
+{}
+
+/// What is asked of any message is asked of those that were pending, or of those that are sent.
+pub fn questions_of_what_is_sent_are_added()
+    ensures { AnySent }
+{}
+
+/// The batches and receipts of a memory are those that were pending and those that are sent.
+pub fn batches_that_are_sent_are_added()
+    ensures { BackgroundSent }
+{}
+
+/// What a message sets becomes the new, whether it comes once or twice.
+pub fn what_is_set_becomes_the_new()
+    ensures { SetsMove }
+{}
+
+/// A part that moves to the new holds old or new, and the new where that is due.
+pub fn what_moves_holds_old_or_new()
+    ensures { HoldsMove }
+{}
+
+/// A list that rises by its keys rises with one more entry put.
+pub fn lists_rise_with_one_more()
+    ensures { PutRises }
+{}
+
+/// A list that rises by its keys rises without some of its entries.
+pub fn lists_rise_without_some()
+    ensures { WithoutRises }
+{}
+
+/// No memory is its own secondary, and no two memories share one.
+pub fn no_two_memories_share_a_secondary()
+    ensures { SecondariesDiffer }
+{}
+
+/// The memory that one guards is the one whose secondary it is.
+pub fn memories_guard_their_own()
+    ensures { GuardsItsOwn }
+{}
