@@ -31,37 +31,24 @@ between a b c x y = is_below_so a c (by (below_is a b x) (below_is b c y))
     by (inr e) (inl f) = let g = e.0 in inl (omega (arith, f, g))
     by (inr e) (inr f) = let g = e.1 in let h = f.1 in inr (e.0 ∙ f.0, omega (arith, g, h))
 
--- a key that is neither below another one nor the same is above it
+-- a number that is neither below another one nor equal is above it
+more : (x y : ℕ) → y ≤ x → eqb x y ≡ false → y < x
+more x y le other = elim (cases_lt y x) [
+  | inl less ↦ less
+  | inr most ↦ let same : x ≡ y = omega (arith, le, most) in absurd (differ (eqb x y) (eq-eqb x y same) other)
+]
+  where
+    differ : (b : Bool) → b ≡ true → b ≡ false → ⊥
+    differ true e f = cc f
+    differ false e f = cc e
+
+-- and so are keys
 above : (a b : Key) → is_below a b ≡ false → same_key a b ≡ false → is_below b a ≡ true
 above a b x y = is_below_so b a (by (eqb a.pid b.pid) refl x y)
   where
     by : (p : Bool) → eqb a.pid b.pid ≡ p → cond p (ltb a.number b.number) (ltb a.pid b.pid) ≡ false → (p && eqb a.number b.number) ≡ false → (b.pid < a.pid) ⊎ ((b.pid ≡ a.pid) × (b.number < a.number))
-    by true same e f =
-        let most : b.number ≤ a.number = ltb-false a.number b.number e in
-        inr (sym (eqb-true a.pid b.pid same), more a.number b.number most f)
-      where
-        more : (x y : ℕ) → y ≤ x → eqb x y ≡ false → y < x
-        more x y le other = elim (cases_lt y x) [
-          | inl less ↦ less
-          | inr most ↦ let same : x ≡ y = omega (arith, le, most) in absurd (differ (eqb x y) (eq-eqb x y same) other)
-        ]
-          where
-            differ : (b : Bool) → b ≡ true → b ≡ false → ⊥
-            differ true e f = cc f
-            differ false e f = cc e
-    by false other e f =
-        let most : b.pid ≤ a.pid = ltb-false a.pid b.pid e in
-        inl (more a.pid b.pid most other)
-      where
-        more : (x y : ℕ) → y ≤ x → eqb x y ≡ false → y < x
-        more x y le other = elim (cases_lt y x) [
-          | inl less ↦ less
-          | inr most ↦ let same : x ≡ y = omega (arith, le, most) in absurd (differ (eqb x y) (eq-eqb x y same) other)
-        ]
-          where
-            differ : (b : Bool) → b ≡ true → b ≡ false → ⊥
-            differ true e f = cc f
-            differ false e f = cc e
+    by true same e f = inr (sym (eqb-true a.pid b.pid same), more a.number b.number (ltb-false a.number b.number e) f)
+    by false other e f = inl (more a.pid b.pid (ltb-false a.pid b.pid e) other)
 
 -- LISTS
 
