@@ -14,7 +14,17 @@ mod hi_file;
 #[cfg(test)]
 mod images;
 #[cfg(test)]
+mod instructions;
+#[cfg(test)]
+mod lists;
+#[cfg(test)]
+mod memory;
+#[cfg(test)]
 mod messages;
+#[cfg(test)]
+mod objects;
+#[cfg(test)]
+mod programs;
 #[cfg(test)]
 mod reports;
 #[cfg(test)]

@@ -10,8 +10,6 @@
 mod memory;
 mod slot;
 mod space;
-#[cfg(test)]
-mod tests;
 mod turn;
 mod word;
 

@@ -29,6 +29,3 @@ pub use sizes::{
 };
 pub use stops::{CallStop, Halt, MemStop, NoMemory};
 pub use text::Text;
-
-#[cfg(test)]
-mod tests;

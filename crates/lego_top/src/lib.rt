@@ -18,6 +18,3 @@ mod program_run;
 
 pub use command::lego_main;
 pub use ending::{Ending, Part};
-
-#[cfg(test)]
-mod tests;

@@ -14,8 +14,6 @@ ghost use Rattle.rv64_decode.specs.Laws.{NoTwoShare, RowsDecode, OthersAreNone, 
 
 mod encoding;
 mod opcodes;
-#[cfg(test)]
-mod tests;
 mod text;
 
 pub use encoding::{Format, immediate, rd, rs1, rs2};

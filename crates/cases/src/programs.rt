@@ -1,8 +1,8 @@
 //! Whole calls: programs of a few words, descriptions, and failures of each object in turn.
 
-use crate::lego_main;
 use host_io::{Depot, Got, MemDepot, MemSink, MemSource};
 use lego_base::{Bytes, LONGEST_FILE};
+use lego_top::lego_main;
 use std::alloc::Global;
 use std::test::Fail;
 

@@ -1,6 +1,6 @@
-//! Each type once, on its happy path.
+//! Lists of bytes, texts and items, once each.
 
-use crate::{Bytes, CallStop, Halt, MemStop, NoMemory, Patch, Pid, Seq, Text, Vpn};
+use lego_base::{Bytes, Seq, Text};
 use std::test::Fail;
 
 #[test]

@@ -1,6 +1,9 @@
-//! Each object once, on its happy path and at each failure.
+//! Each object of the outside world once, on its happy path and at each failure.
 
-use super::*;
+use host_io::{
+    CalmSource, Depot, Failed, FileDepot, Got, InputStop, MemDepot, MemSink, MemSource, Sink, Source,
+    StdSink, StdSource, read_all, write_all,
+};
 use std::fs;
 use std::io::Cursor;
 use std::test::Fail;

@@ -1,6 +1,6 @@
 //! A memory of a few pages, at its edges.
-use crate::FlatMemory;
 use area_list::Areas;
+use flat_memory::FlatMemory;
 use lego_base::{MemStop, Perms, Pid, Vpn};
 use rv64_step::{GuestMem, Width};
 use std::alloc::Global;
