@@ -29,7 +29,7 @@ use Rattle.lego_rest.proofs.Resting.{holds, rests}
 use Rattle.lego_rest.specs.Answers.{all_pending, answers_to, is_storage_asked}
 use Rattle.lego_rest.specs.Fits.{BatchFits, BlockFits, CrashesRise, MachineFits, PlainFits, batch_message, receipt}
 use Rattle.lego_rest.specs.Parts.{Home, Page, main_part, second_part}
-use Rattle.lego_rest.specs.Pending.{AnAnswer, Behind, First, Goes, HandedOn, HandsOn, IsBatch, Left, OfMove, OfOpen, OfOperation, Pends, Reaction, Returns, Says}
+use Rattle.lego_rest.specs.Pending.{AnAnswer, First, Goes, HandedOn, HandsOn, IsBatch, Left, OfBackground, OfMove, OfOpen, OfOperation, Pends, Reaction, Returns, Says}
 use Rattle.lego_rest.specs.Rest.{MemHolds, MemRests, SecondHolds}
 use Rattle.lego_msg.specs.declared.body.Body.TheVariants as body
 use Rattle.lego_msg.specs.declared.operation.Origin.TheVariants as origin
@@ -192,7 +192,7 @@ reset_is_no_batch k (Returns from to is) = let same : 11 ≡ 8 = ap (λ (b : Bod
 reset_may_not_pend : (f : Plain) → Pends None 2 f None None 1 reset_by_nobody → ⊥
 reset_may_not_pend f (OfOperation of) = of
 reset_may_not_pend f (OfMove of) = of
-reset_may_not_pend f (Behind behind) = reset_is_no_batch behind.of behind.batch
+reset_may_not_pend f (OfBackground message) = reset_is_no_batch message.of message.batch
 reset_may_not_pend f (Left old) = let some : 0 < 0 = old.some in omega (arith, some)
 
 -- ANSWERS: a refusal that doesn't stop the run is one, a full log in a write is none

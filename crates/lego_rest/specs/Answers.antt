@@ -1,4 +1,5 @@
 -- Who has answered the open operation: the answer was noted, or it is pending.
+use Rattle.std.specs.List.{list_any}
 use Rattle.std.specs.Prelude.{◌==◌, ◌&&◌, ◌||◌, if◌then◌else◌, [], ◌∷◌, ◌++◌, ℕ, Bool, List, None, Option, Some, false, not}
 use Rattle.lego_base.specs.declared.records.Patch.{Patch}
 use Rattle.lego_msg.specs.Deliveries.{stops}
@@ -28,14 +29,9 @@ answers_to (Some patch) other = not (stops other)
 abbrev pub is_answer_from : Open → Place → Message → Bool
 is_answer_from o p m = m.op.0 == o.number.0 && same_place m.from p && same_place m.to o.by && answers_to (patch_of o.operation) m.body
 
--- whether a pending message passes a test
-abbrev pub any_of : (Message → Bool) → List Message → Bool
-any_of test [] = false
-any_of test (m ∷ pending) = test m || any_of test pending
-
 abbrev pub gave_answer : Place → List Message → Option Open → Bool
 gave_answer p pending None = false
-gave_answer p pending (Some o) = has_answered p o.answers || any_of (is_answer_from o p) pending
+gave_answer p pending (Some o) = has_answered p o.answers || list_any (is_answer_from o p) pending
 
 abbrev pub is_writing : Option Open → Bool
 is_writing None = false
@@ -57,7 +53,7 @@ asks_storage_by number m = m.op.0 == number && same_place m.to place.Storage
 
 abbrev pub is_storage_asked : List Message → Option Open → Bool
 is_storage_asked pending None = false
-is_storage_asked pending (Some o) = any_of (asks_storage_by o.number.0) o.unsent || any_of (asks_storage_by o.number.0) pending
+is_storage_asked pending (Some o) = list_any (asks_storage_by o.number.0) o.unsent || list_any (asks_storage_by o.number.0) pending
 
 abbrev pub is_storage_true : List Message → Option Healing → Option Open → Bool
 is_storage_true pending healing current = not (heals_target healing current) && not (is_storage_asked pending current)

@@ -1,5 +1,5 @@
 -- What components, the plain map and the machine are by themselves, at every moment.
-use Rattle.std.specs.List.{AllByRecursion}
+use Rattle.std.specs.List.{AllByRecursion, filter, list_any}
 use Rattle.std.specs.Prelude.{◌≡◌, ◌⊎◌, ◌/◌, ◌<◌, ◌≤◌, ◌==◌, ◌&&◌, ◌||◌, if◌then◌else◌, [], ◌∷◌, ◌++◌, ℕ, Bool, List, None, Option, Some, false, length, take, true}
 use Rattle.lego_base.specs.Files.{file_bytes, is_file}
 use Rattle.lego_base.specs.Keys.{Rises}
@@ -26,7 +26,6 @@ use Rattle.lego_msg.specs.declared.operation.Answer.{Answer}
 use Rattle.lego_msg.specs.declared.operation.Open.{Open}
 use Rattle.lego_msg.specs.declared.operation.Operation.{Operation}
 use Rattle.lego_msg.specs.declared.operation.Operation.TheVariants.{Drains, Heals, Writes}
-use Rattle.lego_rest.specs.Answers.{any_of}
 use Rattle.lego_rest.specs.Pending.{Says}
 use Rattle.lego_msg.specs.declared.body.Body.TheVariants as body
 use Rattle.lego_msg.specs.declared.place.Place.TheVariants as place
@@ -91,8 +90,7 @@ abbrev pub is_background : ℕ → Message → Bool
 is_background m message = message.op.0 == 0 && (same_place message.from (memory m) || same_place message.to (memory m))
 
 abbrev pub background : ℕ → List Message → List Message
-background m [] = []
-background m (message ∷ pending) = if is_background m message then message ∷ background m pending else background m pending
+background m pending = filter (is_background m) pending
 
 abbrev pub batch_message : Mem → Message
 batch_message x = record { from = memory x.id; to = place.Storage; op = record { 0 = 0 }; body = body.Backup (take x.out x.log) }
@@ -153,7 +151,7 @@ pub record BlockFits (n m : ℕ) (files : Files) (pending : List Message) (b : B
   pub place : cache_of n b.file ≡ m
   pub below : b.file < files.next
   pub same : is_file files.files b.file ≡ true → b.bytes ≡ block_of (file_bytes files.files b.file) b.block
-  pub still : any_of (λ (m : Message). changes_block b m.body) pending ≡ false
+  pub still : list_any (λ (m : Message). changes_block b m.body) pending ≡ false
 
 -- THE OPEN OPERATION
 

@@ -4,7 +4,7 @@
 -- WHAT IS HANDED OVER
 
 -- homes and areas, each old or new as memory m should have them
-use Rattle.std.specs.List.{AllByRecursion}
+use Rattle.std.specs.List.{AllByRecursion, list_any}
 use Rattle.std.specs.Prelude.{◌≡◌, ◌+◌, ◌/◌, ◌<◌, ◌==◌, ◌&&◌, if◌then◌else◌, [], ◌∷◌, ◌++◌, ℕ, Bool, List, None, Option, Some, false, length, not, slice_get, true}
 use Rattle.lego_base.specs.declared.records.PageImage.{PageImage}
 use Rattle.lego_base.specs.declared.records.Patch.{Patch}
@@ -26,7 +26,7 @@ use Rattle.lego_msg.specs.declared.operation.Open.{Open}
 use Rattle.lego_msg.specs.declared.operation.Operation.TheVariants.{Heals}
 use Rattle.lego_msg.specs.declared.place.Place.{Place}
 use Rattle.lego_msg.specs.declared.place.Role.TheVariants.{Main, Spare}
-use Rattle.lego_rest.specs.Answers.{all_pending, any_of, gave_answer}
+use Rattle.lego_rest.specs.Answers.{all_pending, gave_answer}
 use Rattle.lego_rest.specs.Fits.{KeptFits, PagesFit, background}
 use Rattle.lego_rest.specs.Parts.{Areas, Home, IsEither, Page, Sides, new_share, old_share, owns, part_of, sides_of}
 use Rattle.lego_rest.specs.Pending.{Among}
@@ -117,10 +117,6 @@ NotYet x (HandsImages to pid region) = (vpn : ℕ) → vpn / 512 ≡ region.0 �
 NotYet x (Asks to what) = Unit {0}
 NotYet x (HandsPages pid region) = Unit {0}
 
-abbrev pub AllMoves : (Move → Type 0) → List Move → Type 0
-AllMoves P [] = Unit {0}
-AllMoves P (move ∷ moves) = P move × AllMoves P moves
-
 -- THE MOVE ON ITS WAY: it is there exactly once, as its message, as a drain that waits, as its answer pending or noted
 
 abbrev pub count_number : ℕ → List Message → ℕ
@@ -152,7 +148,7 @@ pub record MoveFits (w : Scene) (c : ℕ) (pending : List Message) (next : ℕ) 
 
 -- whether its message is still on its way
 abbrev pub is_asked_still : ℕ → List Message → Bool
-is_asked_still number pending = any_of (λ (m : Message). m.op.0 == number && not (same_place m.to place.Manager)) pending
+is_asked_still number pending = list_any (λ (m : Message). m.op.0 == number && not (same_place m.to place.Manager)) pending
 
 -- BETWEEN: what the done moves did, what those ahead didn't, and the answer that the last done one got, which the next one
 -- takes
@@ -164,10 +160,10 @@ GotLast w c (move ∷ []) (Some got) = MoveGot w c move got
 GotLast w c (move ∷ next ∷ moves) got = GotLast w c (next ∷ moves) got
 
 abbrev pub Between : Scene → ℕ → List Message → ℕ → Mem → List Move → Option Open → Option Body → List Move → Type 0
-Between w c pending next x done None got moves = AllMoves (HasDone w c x) done × AllMoves (NotYet x) moves × GotLast w c done got × ((length moves == 0) ≡ false)
+Between w c pending next x done None got moves = AllByRecursion (HasDone w c x) done × AllByRecursion (NotYet x) moves × GotLast w c done got × ((length moves == 0) ≡ false)
 Between w c pending next x done (Some o) got [] = ⊥
 Between w c pending next x done (Some o) got (move ∷ moves) =
-    AllMoves (HasDone w c x) done × AllMoves (NotYet x) moves × MoveFits w c pending next o move
+    AllByRecursion (HasDone w c x) done × AllByRecursion (NotYet x) moves × MoveFits w c pending next o move
     × (is_asked_still o.number.0 pending ≡ true → NotYet x move)
     × (is_asked_still o.number.0 pending ≡ false → HasDone w c x move)
 

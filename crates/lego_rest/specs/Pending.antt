@@ -34,6 +34,7 @@ abbrev pub IsPlace : ℕ → Place → Type 0
 IsPlace n (Memory number) = number.0 < n
 IsPlace n other = Unit {0}
 
+-- an element is one of a list's, by recursion, so that a literal list gives its cases
 abbrev pub Among : {X : Type 0} → X → List X → Type 0
 Among x [] = ⊥
 Among x (y ∷ ys) = (x ≡ y) ⊎ Among x ys
@@ -92,7 +93,7 @@ pub data IsBatch (m : Message) (k : ℕ) : Type 0 where
   Goes : m.from ≡ memory k → m.to ≡ place.Storage → (patches : List Patch) → m.body ≡ body.Backup patches → IsBatch m k
   Returns : m.from ≡ place.Storage → m.to ≡ memory k → m.body ≡ body.BackedUp → IsBatch m k
 
-pub record IsBehind (lost : Option ℕ) (m : Message) : Type 0 where
+pub record IsBackground (lost : Option ℕ) (m : Message) : Type 0 where
   pub number : m.op.0 ≡ 0
   pub of : ℕ
   pub up : IsUp lost of
@@ -118,7 +119,7 @@ pub record IsOld (lost : Option ℕ) (current move : Option Open) (next : ℕ) (
 pub data Pends (lost : Option ℕ) (n : ℕ) (f : Plain) (current move : Option Open) (next : ℕ) (m : Message) : Type 0 where
   OfOperation : IsOf lost n f m current → Pends lost n f current move next m
   OfMove : IsOfMove m move → Pends lost n f current move next m
-  Behind : IsBehind lost m → Pends lost n f current move next m
+  OfBackground : IsBackground lost m → Pends lost n f current move next m
   Left : IsOld lost current move next m → Pends lost n f current move next m
 
 -- and each is from a place that is there to a place that is there

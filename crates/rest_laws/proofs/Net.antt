@@ -1,12 +1,13 @@
 -- Pending messages, once one is taken out or more are sent.
 use Rattle.std.proofs.Common.{◌≡◌, ◌+◌, ◌||◌, [], ◌∷◌, ◌++◌, ◌∙◌, ℕ, Bool, List, Some, ap, arith, cond, drop, false, length, length-append, refl, slice_get, subst, suc, sym, take, true, zero}
-use Rattle.std.specs.List.{AllByRecursion}
+use Rattle.std.proofs.lemmas.List.Elements.{filter-append}
+use Rattle.std.proofs.lemmas.List.Folds.{list_any-append}
+use Rattle.std.specs.List.{AllByRecursion, list_any}
 use Rattle.lego_msg.proofs.Senders.{same_some}
 use Rattle.lego_msg.specs.Track.{pick_of}
 use Rattle.lego_msg.specs.declared.message.Message.{Message}
-use Rattle.lego_rest.specs.Answers.{any_of}
 use Rattle.lego_rest.specs.Fits.{background, is_background}
-use Rattle.rest_laws.specs.Nets.{AnySent, AnyTaken, BackgroundSent, BackgroundTaken, Split, TakesOne}
+use Rattle.rest_laws.specs.Nets.{AnyTaken, BackgroundTaken, Split, TakesOne}
 
 get_splits : {X : Type 0} (xs : List X) (i : ℕ) (x : X) → slice_get xs i ≡ Some x → xs ≡ take i xs ++ x ∷ drop (i + 1) xs
 get_splits [] i x at = cc at
@@ -24,32 +25,16 @@ takes-one deliveries number net m chosen = record {
   rest = refl;
 }
 
-pub any-sent : AnySent
-any-sent test [] out = refl
-any-sent test (x ∷ net) out = ap (λ (b : Bool). test x || b) (any-sent test net out) ∙ grouped (test x) (any_of test net) (any_of test out)
-  where
-    grouped : (a b c : Bool) → (a || (b || c)) ≡ ((a || b) || c)
-    grouped true b c = refl
-    grouped false b c = refl
-
 pub any-taken : AnyTaken
 any-taken test net net' m split =
-    ap (any_of test) split.whole ∙ any-sent test split.front (m ∷ split.back)
-    ∙ turned (any_of test split.front) (test m) (any_of test split.back)
-    ∙ ap (λ (b : Bool). test m || b) (sym (ap (any_of test) split.rest ∙ any-sent test split.front split.back))
+    ap (list_any test) split.whole ∙ list_any-append test split.front (m ∷ split.back)
+    ∙ turned (list_any test split.front) (test m) (list_any test split.back)
+    ∙ ap (λ (b : Bool). test m || b) (sym (ap (list_any test) split.rest ∙ list_any-append test split.front split.back))
   where
     turned : (a b c : Bool) → (a || (b || c)) ≡ (b || (a || c))
     turned true true c = refl
     turned true false c = refl
     turned false b c = refl
-
-pub background-sent : BackgroundSent
-background-sent k [] out = refl
-background-sent k (x ∷ net) out = by (is_background k x) (background-sent k net out)
-  where
-    by : (b : Bool) → background k (net ++ out) ≡ background k net ++ background k out → cond b (x ∷ background k (net ++ out)) (background k (net ++ out)) ≡ cond b (x ∷ background k net) (background k net) ++ background k out
-    by true rest = ap (λ (ms : List Message). x ∷ ms) rest
-    by false rest = rest
 
 no_length : {X : Type 0} (xs : List X) → length xs ≡ 0 → xs ≡ []
 no_length [] e = refl
@@ -59,10 +44,10 @@ pub background-taken : BackgroundTaken
 background-taken k net net' m split = (other, only)
   where
     apart : background k net ≡ background k split.front ++ cond (is_background k m) (m ∷ background k split.back) (background k split.back)
-    apart = ap (background k) split.whole ∙ background-sent k split.front (m ∷ split.back)
+    apart = ap (background k) split.whole ∙ filter-append (is_background k) split.front (m ∷ split.back)
 
     left : background k net' ≡ background k split.front ++ background k split.back
-    left = ap (background k) split.rest ∙ background-sent k split.front split.back
+    left = ap (background k) split.rest ∙ filter-append (is_background k) split.front split.back
 
     other : is_background k m ≡ false → background k net' ≡ background k net
     other e = left ∙ sym (apart ∙ ap (λ (b : Bool). background k split.front ++ cond b (m ∷ background k split.back) (background k split.back)) e)

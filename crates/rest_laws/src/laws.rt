@@ -1,7 +1,7 @@
 //! Laws of lists, of pending messages and of parts: each is the contract of a function.
 
 ghost use Rattle.rest_laws.specs.Lists.{FindPut, FindWithout, AreasWith, PagePatched, PageOverlaid};
-ghost use Rattle.rest_laws.specs.Nets.{TakesOne, AnyTaken, BackgroundTaken, AnySent, BackgroundSent};
+ghost use Rattle.rest_laws.specs.Nets.{TakesOne, AnyTaken, BackgroundTaken};
 ghost use Rattle.rest_laws.specs.Moves.{SetsMove, HoldsMove};
 ghost use Rattle.rest_laws.specs.Order.{PutRises, WithoutRises};
 ghost use Rattle.rest_laws.specs.Around.{SecondariesDiffer, GuardsItsOwn};
@@ -44,16 +44,6 @@ pub fn questions_of_the_others_stay()
 /// A memory's batch on its way, or its receipt, stays where another message is delivered, and goes where it is itself.
 pub fn batches_stay_until_they_are_delivered()
     ensures { BackgroundTaken }
-{}
-
-/// What is asked of any message is asked of those that were pending, or of those that are sent.
-pub fn questions_of_what_is_sent_are_added()
-    ensures { AnySent }
-{}
-
-/// The batches and receipts of a memory are those that were pending and those that are sent.
-pub fn batches_that_are_sent_are_added()
-    ensures { BackgroundSent }
 {}
 
 /// What a message sets becomes the new, whether it comes once or twice.

@@ -2,7 +2,7 @@
 //! parts of a memory.
 //!
 //! `specs/Lists` has what is found in a list after it changed, `specs/Nets` what is said of pending messages once one is
-//! delivered or more are sent, `specs/Moves` how the cells that a component holds go from the old to the new,
+//! delivered, `specs/Moves` how the cells that a component holds go from the old to the new,
 //! `specs/Order` what keeps a list in the order of its keys, `specs/Around` how memories guard each other in a circle.
 #![tactic(auto)]
 
@@ -10,9 +10,8 @@ mod laws;
 
 pub use laws::{
     a_delivery_takes_one_out, areas_are_those_set, batches_stay_until_they_are_delivered,
-    batches_that_are_sent_are_added, entries_are_found_where_put, entries_that_go_are_not_found,
-    lists_rise_with_one_more, lists_rise_without_some, memories_guard_their_own,
-    no_two_memories_share_a_secondary, overlaid_pages_are_patched_in_order,
-    patches_change_their_page, questions_of_the_others_stay, questions_of_what_is_sent_are_added,
+    entries_are_found_where_put, entries_that_go_are_not_found, lists_rise_with_one_more,
+    lists_rise_without_some, memories_guard_their_own, no_two_memories_share_a_secondary,
+    overlaid_pages_are_patched_in_order, patches_change_their_page, questions_of_the_others_stay,
     what_is_set_becomes_the_new, what_moves_holds_old_or_new,
 };
