@@ -3,9 +3,8 @@
 use lego_base::{
     Area, HomeEntry, MemId, NoMemory, OpNo, Perms, Pid, RegionNo, Seq, SpaceAreas, Vpn,
 };
-use lego_msg::{
-    Body, Event, ListWatch, Message, Place, Role, Watch, Why, has_answered, is_complete, picked,
-};
+use lego_msg::{Body, Event, Message, Place, Role, Watch, Why};
+use lego_watch::{ListWatch, has_answered, is_complete, picked};
 use std::alloc::Global;
 use std::test::Fail;
 

@@ -19,7 +19,6 @@ pub mod Form
 pub mod Granted
 pub mod Replies
 pub mod Watching
-pub mod ListWatched
 pub mod Kinds
 pub mod Next
 pub mod Judged

@@ -1,21 +1,19 @@
-//! Messages between the components of the split run, the events that a run shows, and the watch that sees them; and,
-//! as definitions, which lists of events a split run may show.
+//! Messages between the components of the split run, the events that a run shows, and the trait of a watch that sees
+//! them; and, as definitions, which lists of events a split run may show.
 //!
 //! Contracts see messages and events as plain values, lists as lists. `specs/Table` is the message table,
 //! `specs/Track` what a list of events determines, `specs/Run` and `specs/Legal` how it goes on, `specs/Watching` the
 //! watch's promise. The laws that a reader may ask for are stated at the functions of `laws`; docs/SPLIT.md explains all
-//! of it. What ties the components to the plain map is in lego_rest, the caches' rule in cache_tags.
+//! of it. What ties the components to the plain map is in lego_rest, the caches' rule in cache_tags, watches and judges
+//! of lists of events in lego_watch.
 #![tactic(auto)]
 
 mod body;
 mod body_kind;
 mod clock;
-mod count_watch;
 mod event;
 mod healing;
-mod judge;
 mod laws;
-mod list_watch;
 mod message;
 mod operation;
 mod outbox;
@@ -24,10 +22,8 @@ mod watch;
 
 pub use body::Body;
 pub use clock::Clock;
-pub use count_watch::CountWatch;
 pub use event::{Event, Kind};
 pub use healing::{Healing, Move};
-pub use judge::{has_answered, is_complete, is_pending, picked};
 pub use laws::{
     completions_are_by_the_list, completions_are_due, completions_are_first, crashes_are_due,
     crashes_stand_at_their_moment, deliveries_are_picked, legal_lists_are_cut_and_joined,
@@ -35,7 +31,6 @@ pub use laws::{
     sends_follow_their_delivery, shown_as_due, shown_runs_are_joined, steps_compose,
     the_next_event_may_come,
 };
-pub use list_watch::ListWatch;
 pub use message::Message;
 pub use operation::{Answer, Open, Operation, Origin};
 pub use outbox::Outbox;

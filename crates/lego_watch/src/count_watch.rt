@@ -4,8 +4,7 @@ ghost use Rattle.std.specs.Prelude.{◌≡◌, ◌∷◌, [], List, None, IsTrue
 ghost use Rattle.lego_msg.specs.declared.event.Event.{Event as Happened};
 ghost use Rattle.lego_msg.specs.Watching.{Shown};
 
-use crate::event::Event;
-use crate::watch::Watch;
+use lego_msg::{Event, Watch};
 
 /// A watch that tells nothing and never fails.
 #[derive(Clone, Copy, Debug)]

@@ -3,11 +3,10 @@
 ghost use Rattle.std.specs.Prelude.{◌≡◌, ◌≤◌, ◌⊎◌, ◌∷◌, [], ◌++◌, true, false, IfOk, OnOk, OnErr, Some};
 ghost use Rattle.lego_msg.specs.Watching.{Shown};
 ghost use Rattle.lego_base.specs.Counts.{risen};
-ghost use Rattle.lego_msg.specs.ListWatched.{nothing_seen, next_call, is_to_fail, added, failed};
+ghost use Rattle.lego_watch.specs.ListWatched.{nothing_seen, next_call, is_to_fail, added, failed};
 
-use crate::event::Event;
-use crate::watch::Watch;
 use lego_base::{NoMemory, Seq};
+use lego_msg::{Event, Watch};
 use std::alloc::Global;
 use std::marker::Model;
 
@@ -22,7 +21,7 @@ pub struct ListWatch {
 }
 
 impl Model for ListWatch {
-    ghost use Rattle.lego_msg.specs.ListWatched.{Seen};
+    ghost use Rattle.lego_watch.specs.ListWatched.{Seen};
 
     ghost Value = { Seen };
 

@@ -1,6 +1,6 @@
 use Rattle.std.proofs.Common.{◌∙◌}
-use Rattle.lego_msg.proofs.ShownLaws.{watch_added, watch_failed}
-use Rattle.lego_msg.proofs.list_watch.ListWatchWatch.see.Goals as goal
+use Rattle.lego_watch.proofs.Seeing.{watch_added, watch_failed}
+use Rattle.lego_watch.proofs.list_watch.ListWatchWatch.see.Goals as goal
 
 pub returns-then-begin-clause-shown : goal.returns-then-begin-clause-shown
 returns-then-begin-clause-shown c = watch_failed _ _ _ _ c.begin.ensures.counted c.fail.ensures.risen c.fail.ensures.later

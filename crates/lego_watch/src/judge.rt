@@ -6,11 +6,8 @@ ghost use Rattle.lego_msg.specs.Track.{is_pending as is_op_pending};
 ghost use Rattle.lego_msg.specs.Deliveries.{stops as is_stop};
 ghost use Rattle.lego_msg.specs.Judged.{place_picked, is_reaction as is_reacting, is_answer as is_answering, answered_after, has_answered_in, all_answered_in, is_complete_in};
 
-use crate::body::Body;
-use crate::event::Event;
-use crate::message::Message;
-use crate::place::{Place, Why};
 use lego_base::OpNo;
+use lego_msg::{Body, Event, Message, Place, Why};
 
 /// The place in the list of pending messages that the delivery list picks for the delivery with this number, from
 /// 0, where `pending` messages are pending. `None` exactly where nothing is pending or the list is empty.
