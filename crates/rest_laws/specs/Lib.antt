@@ -3,3 +3,5 @@ pub mod Order
 pub mod Nets
 pub mod Moves
 pub mod Around
+pub mod Steps
+pub mod Sending

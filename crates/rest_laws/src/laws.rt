@@ -5,6 +5,8 @@ ghost use Rattle.rest_laws.specs.Nets.{TakesOne, AnyTaken, BackgroundTaken};
 ghost use Rattle.rest_laws.specs.Moves.{SetsMove, HoldsMove};
 ghost use Rattle.rest_laws.specs.Order.{PutRises, WithoutRises};
 ghost use Rattle.rest_laws.specs.Around.{SecondariesDiffer, GuardsItsOwn};
+ghost use Rattle.rest_laws.specs.Steps.{ShiftKeeps, RowKeeps, StoringKeeps};
+ghost use Rattle.rest_laws.specs.Sending.{OwedIsSent, FirstIsSent};
 
 /// An entry that is put is found under its key.
 pub fn entries_are_found_where_put()
@@ -74,4 +76,29 @@ pub fn no_two_memories_share_a_secondary()
 /// The memory that one guards is the one whose secondary it is.
 pub fn memories_guard_their_own()
     ensures { GuardsItsOwn }
+{}
+
+/// A step that changes no component keeps the relation, where what is open and pending goes on in form.
+pub fn steps_of_messages_keep_the_relation()
+    ensures { ShiftKeeps }
+{}
+
+/// A step that changes a memory keeps the relation, where its cells stay or become the new ones and all others go on in form.
+pub fn rows_of_memories_keep_the_relation()
+    ensures { RowKeeps }
+{}
+
+/// A step that changes storage keeps the relation, where files and images stay or become the new ones and all others go on in form.
+pub fn rows_of_storage_keep_the_relation()
+    ensures { StoringKeeps }
+{}
+
+/// The send of what is owed keeps the relation, whatever is open or healing.
+pub fn what_is_owed_is_sent_in_the_relation()
+    ensures { OwedIsSent }
+{}
+
+/// The send of the open operation's next first message keeps the relation, where nothing heals.
+pub fn first_messages_are_sent_in_the_relation()
+    ensures { FirstIsSent }
 {}
