@@ -27,7 +27,7 @@ use Rattle.lego_msg.specs.declared.place.Place.{Place}
 use Rattle.lego_msg.specs.declared.place.Place.TheVariants.{Manager, Memory, Storage}
 use Rattle.lego_rest.proofs.Resting.{holds, rests}
 use Rattle.lego_rest.specs.Answers.{all_pending, answers_to, is_storage_asked}
-use Rattle.lego_rest.specs.Fits.{BatchFits, BlockFits, CrashesRise, MachineFits, PlainFits, batch_message, receipt}
+use Rattle.lego_rest.specs.Fits.{BatchFits, BlockFits, CrashesRise, IsRequest, MachineFits, PlainFits, batch_message, receipt}
 use Rattle.lego_rest.specs.Parts.{Home, Page, main_part, second_part}
 use Rattle.lego_rest.specs.Pending.{AnAnswer, First, Goes, HandedOn, HandsOn, IsBatch, Left, OfBackground, OfMove, OfOpen, OfOperation, Pends, Reaction, Returns, Says}
 use Rattle.lego_rest.specs.Rest.{MemHolds, MemRests, SecondHolds}
@@ -211,6 +211,16 @@ asked_again = refl
 
 asked_by_none : is_storage_asked [] (Some (opened (two (0 ∷ []) []) 5 cpu0 (Drains (mem 1)))) ≡ false
 asked_by_none = refl
+
+-- A FIRST MESSAGE goes to a memory that is there: a drain of the third memory of two would be pending to nobody
+abbrev drain_of : ℕ → Message
+drain_of m = record { from = Manager; to = memory m; op = record { 0 = 5 }; body = body.Drain }
+
+drain_of_a_memory : IsRequest 2 (drain_of 1)
+drain_of_a_memory = record { there = omega arith; component = refl; changes = λ b. refl }
+
+drain_of_nobody : IsRequest 2 (drain_of 2) → ⊥
+drain_of_nobody request = let there : 2 < 2 = request.there in omega (arith, there)
 
 -- THE MACHINE: with one memory a memory would be its own secondary; two crashes of one turn aren't in order
 abbrev alone : Shape

@@ -26,7 +26,7 @@ use Rattle.lego_msg.specs.declared.operation.Answer.{Answer}
 use Rattle.lego_msg.specs.declared.operation.Open.{Open}
 use Rattle.lego_msg.specs.declared.operation.Operation.{Operation}
 use Rattle.lego_msg.specs.declared.operation.Operation.TheVariants.{Drains, Heals, Writes}
-use Rattle.lego_rest.specs.Pending.{Says}
+use Rattle.lego_rest.specs.Pending.{IsPlace, Says}
 use Rattle.lego_msg.specs.declared.body.Body.TheVariants as body
 use Rattle.lego_msg.specs.declared.place.Place.TheVariants as place
 
@@ -155,6 +155,12 @@ pub record BlockFits (n m : ℕ) (files : Files) (pending : List Message) (b : B
 
 -- THE OPEN OPERATION
 
+-- a first message: to a memory that is there or to storage, and not a memory's word to storage that changes a block
+pub record IsRequest (n : ℕ) (m : Message) : Type 0 where
+  pub there : IsPlace n m.to
+  pub component : is_issuer m.to ≡ false
+  pub changes : (b : Block) → changes_block b m.body ≡ false
+
 pub record AnswerFits (n : ℕ) (f : Plain) (o : Open) (a : Answer) : Type 0 where
   pub target : is_among a.place o.targets ≡ true
   pub says : Says n f o.operation a.place a.body
@@ -168,6 +174,7 @@ pub record OpenFits (n : ℕ) (owners : List HomeEntry) (f : Plain) (next : ℕ)
   pub targets : o.targets ≡ targets_of n o.operation
   -- what is unsent is an end of its first messages
   pub sent : (front : List Message) × (front ++ o.unsent ≡ messages_of o.by o.number (asks_of n o.operation))
+  pub requests : AllByRecursion (IsRequest n) (messages_of o.by o.number (asks_of n o.operation))
   -- what its caller owed still holds
   pub fits : OpFits owners f o.operation
   pub answers : AllByRecursion (AnswerFits n f o) o.answers

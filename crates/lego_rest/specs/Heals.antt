@@ -43,28 +43,32 @@ pub record MetaFits (b : Sides) (m : ℕ) (k : Kept) : Type 0 where
 abbrev pub RegionFits : Sides → ℕ → ℕ → ℕ → List PageImage → Type 0
 RegionFits b m pid region pages = (vpn : ℕ) → vpn / 512 ≡ region → IsEither b m (Page pid vpn) (page_in pages pid vpn)
 
+-- the patch of an open write
+abbrev pub open_patch : Option Open → Option Patch
+open_patch None = None
+open_patch (Some o) = patch_of o.operation
+
 -- a drained log has no patches but those of the open write
-abbrev pub IsDrainedFor : Option Open → List Patch → Type 0
-IsDrainedFor None log = log ≡ []
-IsDrainedFor (Some o) log = AllByRecursion (λ (p : Patch). patch_of o.operation ≡ Some p) log
+abbrev pub IsDrainedFor : Option Patch → List Patch → Type 0
+IsDrainedFor patch log = AllByRecursion (λ (p : Patch). patch ≡ Some p) log
 
 -- the secondary's log is drained, and so the images alone are old or new as c should have its pages
-abbrev pub IsDrained : Sides → Option Open → List Mem → List PageImage → ℕ → Type 0
-IsDrained b current mems images c =
-    ((x : Mem) → slice_get mems (secondary_of b.n c) ≡ Some x → IsDrainedFor current x.log)
+abbrev pub IsDrained : Sides → Option Patch → List Mem → List PageImage → ℕ → Type 0
+IsDrained b patch mems images c =
+    ((x : Mem) → slice_get mems (secondary_of b.n c) ≡ Some x → IsDrainedFor patch x.log)
     × ((pid vpn : ℕ) → IsEither b c (Page pid vpn) (if owns b.owners c pid (vpn / 512) then page_in images pid vpn else None))
 
 -- WHAT A MOVE'S ANSWER SAYS
 
--- what healing reads: the sides, the open operation, the memories and the images
+-- what healing reads: the sides, the patch of an open write, the memories and the images
 pub record Scene : Type 0 where
   pub sides : Sides
-  pub current : Option Open
+  pub patch : Option Patch
   pub mems : List Mem
   pub images : List PageImage
 
 abbrev pub scene_of : Track → Scene
-scene_of t = record { sides = sides_of t; current = t.current; mems = t.mems; images = t.disk.images }
+scene_of t = record { sides = sides_of t; patch = open_patch t.current; mems = t.mems; images = t.disk.images }
 
 abbrev pub guarded : Scene → ℕ → ℕ
 guarded w c = guarded_by w.sides.n c
@@ -78,7 +82,7 @@ GotPages w m pid region (body.Images pages) = ArePages pid region pages × Pages
 GotPages w m pid region other = ⊥
 
 abbrev pub GotAsked : Scene → ℕ → Body → Body → Type 0
-GotAsked w c body.Drain got = (got ≡ body.Drained) × IsDrained w.sides w.current w.mems w.images c
+GotAsked w c body.Drain got = (got ≡ body.Drained) × IsDrained w.sides w.patch w.mems w.images c
 GotAsked w c (body.PullMeta of Spare) got = GotMeta w c got
 GotAsked w c (body.PullMeta of Main) got = GotMeta w (guarded w c) got
 GotAsked w c (body.PullImages pid region) got = GotPages w c pid.0 region.0 got
@@ -102,7 +106,7 @@ HandsOver w c move told = ⊥
 
 -- WHAT A MOVE HAS DONE, where x is what c holds
 abbrev pub HasDone : Scene → ℕ → Mem → Move → Type 0
-HasDone w c x (Asks to body.Drain) = IsDrained w.sides w.current w.mems w.images c
+HasDone w c x (Asks to body.Drain) = IsDrained w.sides w.patch w.mems w.images c
 HasDone w c x (Asks to what) = Unit {0}
 HasDone w c x (HandsMeta to Main) = MetaFits w.sides c x.main
 HasDone w c x (HandsMeta to Spare) = MetaFits w.sides (guarded w c) x.spare

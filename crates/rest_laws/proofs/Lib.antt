@@ -6,3 +6,4 @@ pub mod Around
 pub mod Opened
 pub mod Stepping
 pub mod Sends
+pub mod Dropped

@@ -62,6 +62,12 @@ pub among_middle : {X : Type 0} (x : X) (front back : List X) → Among x (front
 among_middle x [] back = inl refl
 among_middle x (y ∷ front) back = inr (among_middle x front back)
 
+-- and what is said of all is said of each
+pub all_among : {X : Type 0} (P : X → Type 0) → (xs : List X) (x : X) → Among x xs → AllByRecursion P xs → P x
+all_among P [] x among all = absurd among
+all_among P (y ∷ ys) x (inl e) all = subst P (sym e) all.0
+all_among P (y ∷ ys) x (inr among) all = all_among P ys x among all.1
+
 -- each is from the issuer, and has the number
 pub first_from : (by : Place) (number : OpNo) (asks : List Ask) (m : Message) → Among m (messages_of by number asks) → (m.from ≡ by) × (m.op ≡ number)
 first_from by number [] m among = absurd among

@@ -15,14 +15,14 @@ use Rattle.lego_msg.specs.declared.message.Message.{Message}
 use Rattle.lego_msg.specs.declared.operation.Open.{Open}
 use Rattle.lego_msg.specs.declared.place.Place.{Place}
 use Rattle.lego_rest.specs.Answers.{all_pending, answers_to, asks_storage_by, gave_answer, heals_target, images_due, is_answer_from, is_storage_asked, is_storage_true, is_writing}
-use Rattle.lego_rest.specs.Fits.{OpenFits, WaiterFits, background, changes_block, is_background}
+use Rattle.lego_rest.specs.Fits.{IsRequest, OpenFits, WaiterFits, background, changes_block, is_background}
 use Rattle.lego_rest.specs.Heals.{Between, HealFits, scene_of}
 use Rattle.lego_rest.specs.Parts.{plain_with}
 use Rattle.lego_rest.specs.Pending.{Among, First, IsPlace, MayPend, OfOperation}
 use Rattle.lego_rest.specs.Rest.{CurrentFits, IsReady, Middle}
-use Rattle.rest_laws.proofs.Opened.{all_both, among_middle, answers_as_before, every, first_from, issuer_apart, issuer_there, pends_as_before, waits_as_before}
+use Rattle.rest_laws.proofs.Opened.{all_among, all_both, among_middle, answers_as_before, every, first_from, issuer_apart, issuer_there, pends_as_before, waits_as_before}
 use Rattle.rest_laws.proofs.Stepping.{shift-keeps}
-use Rattle.rest_laws.specs.Sending.{FirstIsSent, IsRequest, OwedIsSent}
+use Rattle.rest_laws.specs.Sending.{FirstIsSent, OwedIsSent}
 use Rattle.rest_laws.specs.Steps.{Moment, Shift}
 use Rattle.lego_msg.specs.declared.place.Place.TheVariants as place
 
@@ -32,15 +32,15 @@ or_false : (a b : Bool) → (a || b) ≡ false → a ≡ false
 or_false true b e = cc e
 or_false false b e = refl
 
-not_true : (a : Bool) → not a ≡ true → a ≡ false
+pub not_true : (a : Bool) → not a ≡ true → a ≡ false
 not_true true e = cc e
 not_true false e = refl
 
-both_true : (a b : Bool) → (a && b) ≡ true → (a ≡ true) × (b ≡ true)
+pub both_true : (a b : Bool) → (a && b) ≡ true → (a ≡ true) × (b ≡ true)
 both_true true b e = (refl, e)
 both_true false b e = cc e
 
-and_true : (a b : Bool) → a ≡ true → b ≡ true → (a && b) ≡ true
+pub and_true : (a b : Bool) → a ≡ true → b ≡ true → (a && b) ≡ true
 and_true a b e f = ap (λ (x : Bool). x && b) e ∙ f
 
 -- a test that holds of no message of a longer list holds of none of a shorter one
@@ -58,7 +58,7 @@ done_before net out None is = cc is
 done_before net out (Some o) is = complete_before net out o is
 
 -- what was false stays false, where being true goes back
-back_false : (a b : Bool) → (b ≡ true → a ≡ true) → a ≡ false → b ≡ false
+pub back_false : (a b : Bool) → (b ≡ true → a ≡ true) → a ≡ false → b ≡ false
 back_false a true back e = let both : true ≡ false = sym (back refl) ∙ e in cc both
 back_false a false back e = refl
 
@@ -169,7 +169,7 @@ owed-is-sent lost t m more is middle = sent_keeps lost t m more is middle
 
 -- A FIRST MESSAGE IS SENT
 
-module _ (t : Track) (o : Open) (m : Message) (more : List Message) (is : t.current ≡ Some o) (healed : t.healing ≡ None) (settled : t.owed ≡ []) (next_ : o.unsent ≡ m ∷ more) (request : IsRequest (memory_count t.shape) m) (middle : Middle None t) where
+module _ (t : Track) (o : Open) (m : Message) (more : List Message) (is : t.current ≡ Some o) (healed : t.healing ≡ None) (settled : t.owed ≡ []) (next_ : o.unsent ≡ m ∷ more) (middle : Middle None t) where
   abbrev with_more : Open
   with_more = record o { unsent = more }
 
@@ -209,6 +209,9 @@ module _ (t : Track) (o : Open) (m : Message) (more : List Message) (is : t.curr
   from_issuer : (m.from ≡ o.by) × (m.op ≡ o.number)
   from_issuer = first_from o.by o.number (asks_of (memory_count t.shape) o.operation) m is_first
 
+  request : IsRequest (memory_count t.shape) m
+  request = all_among (IsRequest (memory_count t.shape)) (messages_of o.by o.number (asks_of (memory_count t.shape) o.operation)) m is_first fits.0.requests
+
   open_fits : OpenFits (memory_count t.shape) t.owners t.plain t.next with_more
   open_fits = record {
     some = fits.0.some;
@@ -216,6 +219,7 @@ module _ (t : Track) (o : Open) (m : Message) (more : List Message) (is : t.curr
     by = fits.0.by;
     targets = fits.0.targets;
     sent = (fits.0.sent.0 ++ m ∷ [], append_assoc fits.0.sent.0 (m ∷ []) more ∙ sym whole);
+    requests = fits.0.requests;
     fits = fits.0.fits;
     answers = every (answers_as_before o more o.answers (memory_count t.shape) t.plain) o.answers fits.0.answers;
   }
@@ -340,4 +344,4 @@ module _ (t : Track) (o : Open) (m : Message) (more : List Message) (is : t.curr
           no_open e = cc e
 
 pub first-is-sent : FirstIsSent
-first-is-sent t o m more is healed settled next_ request middle = first_keeps t o m more is healed settled next_ request middle
+first-is-sent t o m more is healed settled next_ middle = first_keeps t o m more is healed settled next_ middle

@@ -5,3 +5,4 @@ pub mod Moves
 pub mod Around
 pub mod Steps
 pub mod Sending
+pub mod Delivering

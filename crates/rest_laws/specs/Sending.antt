@@ -1,12 +1,8 @@
 -- Sends keep the relation: of what is owed, whatever is open or healing, and of the open operation's first messages.
-use Rattle.std.specs.Prelude.{◌≡◌, [], ◌∷◌, ◌++◌, ℕ, List, None, Option, Some, false}
-use Rattle.lego_msg.specs.Places.{is_issuer}
-use Rattle.lego_msg.specs.State.{Block}
-use Rattle.lego_msg.specs.Track.{Track, memory_count}
+use Rattle.std.specs.Prelude.{◌≡◌, [], ◌∷◌, ◌++◌, ℕ, List, None, Option, Some}
+use Rattle.lego_msg.specs.Track.{Track}
 use Rattle.lego_msg.specs.declared.message.Message.{Message}
 use Rattle.lego_msg.specs.declared.operation.Open.{Open}
-use Rattle.lego_rest.specs.Fits.{changes_block}
-use Rattle.lego_rest.specs.Pending.{IsPlace}
 use Rattle.lego_rest.specs.Rest.{Middle}
 
 -- what is owed counts as pending already, so that its send changes nothing
@@ -14,14 +10,8 @@ abbrev pub OwedIsSent : Type 0
 OwedIsSent = (lost : Option ℕ) (t : Track) (m : Message) (more : List Message) → t.owed ≡ m ∷ more →
     Middle lost t → Middle lost (record t { net = t.net ++ m ∷ []; owed = more })
 
--- a first message: to a memory that is there or to storage, and no word of a memory to storage that changes a block
-pub record IsRequest (n : ℕ) (m : Message) : Type 0 where
-  pub there : IsPlace n m.to
-  pub component : is_issuer m.to ≡ false
-  pub changes : (b : Block) → changes_block b m.body ≡ false
-
 -- the next first message of the open operation, where nothing heals
 abbrev pub FirstIsSent : Type 0
 FirstIsSent = (t : Track) (o : Open) (m : Message) (more : List Message) → t.current ≡ Some o → t.healing ≡ None → t.owed ≡ [] →
-    o.unsent ≡ m ∷ more → IsRequest (memory_count t.shape) m →
+    o.unsent ≡ m ∷ more →
     Middle None t → Middle None (record t { net = t.net ++ m ∷ []; current = Some (record o { unsent = more }) })

@@ -6,6 +6,7 @@ ghost use Rattle.rest_laws.specs.Moves.{SetsMove, HoldsMove};
 ghost use Rattle.rest_laws.specs.Order.{PutRises, WithoutRises};
 ghost use Rattle.rest_laws.specs.Around.{SecondariesDiffer, GuardsItsOwn};
 ghost use Rattle.rest_laws.specs.Steps.{ShiftKeeps, RowKeeps, StoringKeeps};
+ghost use Rattle.rest_laws.specs.Delivering.{OldIsDropped};
 ghost use Rattle.rest_laws.specs.Sending.{OwedIsSent, FirstIsSent};
 
 /// An entry that is put is found under its key.
@@ -101,4 +102,9 @@ pub fn what_is_owed_is_sent_in_the_relation()
 /// The send of the open operation's next first message keeps the relation, where nothing heals.
 pub fn first_messages_are_sent_in_the_relation()
     ensures { FirstIsSent }
+{}
+
+/// An issuer's delivery of a message of neither the open operation nor the move keeps the relation.
+pub fn answers_to_nobody_are_dropped_in_the_relation()
+    ensures { OldIsDropped }
 {}

@@ -9,7 +9,7 @@
 mod laws;
 
 pub use laws::{
-    a_delivery_takes_one_out, areas_are_those_set, batches_stay_until_they_are_delivered,
+    a_delivery_takes_one_out, answers_to_nobody_are_dropped_in_the_relation, areas_are_those_set, batches_stay_until_they_are_delivered,
     entries_are_found_where_put, entries_that_go_are_not_found,
     first_messages_are_sent_in_the_relation, lists_rise_with_one_more, lists_rise_without_some,
     memories_guard_their_own, no_two_memories_share_a_secondary,
