@@ -1,127 +1,22 @@
 -- An issuer gets what is of no open operation any more.
-use Rattle.std.proofs.Common.{◌≡◌, ◌⊎◌, ◌+◌, ◌<◌, ◌==◌, ◌&&◌, ◌||◌, [], ◌∷◌, ◌++◌, ◌∙◌, ℕ, Bool, List, None, Option, Some, ap, append-nil, arith, cond, false, inl, inr, length, not, refl, slice_get, subst, sym, true}
-use Rattle.std.proofs.lemmas.Bool.{eqb-false}
-use Rattle.std.proofs.lemmas.Bool.Decides.{eqb_tells}
-use Rattle.std.specs.List.{AllByRecursion, list_any}
+use Rattle.std.proofs.Common.{◌≡◌, ◌+◌, ◌&&◌, ◌++◌, ◌∙◌, ℕ, Bool, List, None, Option, Some, cond, false, inl, refl, sym, true}
+use Rattle.std.specs.List.{AllByRecursion}
 use Rattle.lego_msg.specs.Deliveries.{MayDeliver, is_waiting, taken}
-use Rattle.lego_msg.specs.Places.{is_issuer, memory, same_place}
-use Rattle.lego_msg.specs.Plain.{Plain}
-use Rattle.lego_msg.specs.State.{Mem}
-use Rattle.lego_msg.specs.Track.{Track, all_answered, has_answered, healing_move, is_complete, is_done, is_pending, memory_count, taken_out}
-use Rattle.lego_msg.specs.declared.body.Body.{Body}
+use Rattle.lego_msg.specs.Places.{is_issuer, memory}
+use Rattle.lego_msg.specs.Track.{Track, healing_move, memory_count, taken_out}
 use Rattle.lego_msg.specs.declared.healing.Healing.{Healing}
-use Rattle.lego_msg.specs.declared.healing.Move.{Move}
 use Rattle.lego_msg.specs.declared.message.Message.{Message}
 use Rattle.lego_msg.specs.declared.operation.Open.{Open}
-use Rattle.lego_msg.specs.declared.place.Place.{Place}
-use Rattle.lego_msg.specs.declared.place.Place.TheVariants.{Manager, Memory, Processor, Storage}
-use Rattle.lego_rest.specs.Answers.{all_pending, asks_storage_by, gave_answer, heals_target, images_due, is_answer_from, is_storage_asked, is_storage_true, is_writing}
-use Rattle.lego_rest.specs.Fits.{background, changes_block, is_background}
-use Rattle.lego_rest.specs.Heals.{Between, HealFits, HealHolds, MoveFits, Scene, count_drains, count_number, is_asked_still, scene_of}
-use Rattle.lego_rest.specs.Pending.{Goes, IsBatch, IsNot, IsOf, IsOfMove, IsOld, Left, MayPend, OfBackground, OfMove, OfOperation, Pends, Returns}
-use Rattle.lego_rest.specs.Rest.{CurrentFits, IsReady, Middle}
-use Rattle.rest_laws.proofs.Net.{any-taken, background-taken, takes-one}
-use Rattle.rest_laws.proofs.Opened.{all_both}
-use Rattle.rest_laws.proofs.Sends.{and_true, back_false, both_true, not_true}
+use Rattle.lego_rest.specs.Answers.{all_pending, gave_answer, images_due, is_storage_true, is_writing}
+use Rattle.lego_rest.specs.Heals.{HealFits, scene_of}
+use Rattle.lego_rest.specs.Pending.{IsNot, IsOld, MayPend}
+use Rattle.lego_rest.specs.Rest.{CurrentFits, Middle}
+use Rattle.rest_laws.proofs.Sends.{and_true, back_false, both_true}
 use Rattle.rest_laws.proofs.Stepping.{shift-keeps}
+use Rattle.rest_laws.proofs.Taken.{all_sent, all_taken, batches_same, between_goes, changes_less, done_same, gave_less, is_old, split, storage_same, whole}
 use Rattle.rest_laws.specs.Delivering.{OldIsDropped}
-use Rattle.rest_laws.specs.Nets.{Split}
 use Rattle.rest_laws.specs.Steps.{Moment, Shift}
 use Rattle.lego_msg.specs.declared.place.Place.TheVariants as place
-
--- LISTS without one of their messages
-
-all_apart : {X : Type 0} (P : X → Type 0) → (front back : List X) (x : X) → AllByRecursion P (front ++ x ∷ back) → P x × AllByRecursion P (front ++ back)
-all_apart P [] back x all = all
-all_apart P (y ∷ front) back x all = let rest = all_apart P front back x all.1 in (rest.0, (all.0, rest.1))
-
-pub all_taken : (P : Message → Type 0) → (net net' : List Message) (m : Message) → Split net net' m → AllByRecursion P net → P m × AllByRecursion P net'
-all_taken P net net' m split all =
-    let apart = all_apart P split.front split.back m (subst (AllByRecursion P) split.whole all) in
-    (apart.0, subst (AllByRecursion P) (sym split.rest) apart.1)
-
--- a test that the message fails holds of some other one where it held of any
-pub any_same : (test : Message → Bool) (net net' : List Message) (m : Message) → Split net net' m → test m ≡ false → list_any test net ≡ list_any test net'
-any_same test net net' m split none = any-taken test net net' m split ∙ ap (λ (b : Bool). b || list_any test net') none
-
-pub any_less : (test : Message → Bool) (net net' : List Message) (m : Message) → Split net net' m → list_any test net' ≡ true → list_any test net ≡ true
-any_less test net net' m split e = any-taken test net net' m split ∙ by (test m) (list_any test net') e
-  where
-    by : (a b : Bool) → b ≡ true → (a || b) ≡ true
-    by true b e = refl
-    by false b e = e
-
-count_both : (number : ℕ) (xs ys : List Message) → count_number number (xs ++ ys) ≡ count_number number xs + count_number number ys
-count_both number [] ys = by (count_number number ys)
-  where
-    by : (k : ℕ) → k ≡ 0 + k
-    by k = omega arith
-count_both number (x ∷ xs) ys =
-    let rest : count_number number (xs ++ ys) ≡ count_number number xs + count_number number ys = count_both number xs ys in
-    by (cond (x.op.0 == number) 1 0) rest
-  where
-    by : (one : ℕ) → count_number number (xs ++ ys) ≡ count_number number xs + count_number number ys → one + count_number number (xs ++ ys) ≡ (one + count_number number xs) + count_number number ys
-    by one rest = omega (arith, rest)
-
-pub count_same : (number : ℕ) (net net' : List Message) (m : Message) → Split net net' m → (m.op.0 == number) ≡ false → count_number number net ≡ count_number number net'
-count_same number net net' m split none =
-    let whole : count_number number net ≡ count_number number split.front + (cond (m.op.0 == number) 1 0 + count_number number split.back) = ap (count_number number) split.whole ∙ count_both number split.front (m ∷ split.back) in
-    let rest : count_number number net' ≡ count_number number split.front + count_number number split.back = ap (count_number number) split.rest ∙ count_both number split.front split.back in
-    let zero : cond (m.op.0 == number) 1 0 ≡ 0 = ap (λ (b : Bool). cond b 1 0) none in
-    by (cond (m.op.0 == number) 1 0) whole zero rest
-  where
-    by : (one : ℕ) → count_number number net ≡ count_number number split.front + (one + count_number number split.back) → one ≡ 0 → count_number number net' ≡ count_number number split.front + count_number number split.back → count_number number net ≡ count_number number net'
-    by one whole zero rest = omega (arith, whole, zero, rest)
-
--- WHAT AN ISSUER GETS
-
-issuer_no_storage : (to : Place) → is_issuer to ≡ true → same_place to place.Storage ≡ false
-issuer_no_storage (Processor cpu) e = refl
-issuer_no_storage (Memory m) e = cc e
-issuer_no_storage Storage e = cc e
-issuer_no_storage Manager e = refl
-
-no_batch_to_issuer : (m : Message) (k : ℕ) → is_issuer m.to ≡ true → IsBatch m k → ⊥
-no_batch_to_issuer m k issuer (Goes from to patches body) = let e : false ≡ true = ap is_issuer (sym to) ∙ issuer in cc e
-no_batch_to_issuer m k issuer (Returns from to body) = let e : false ≡ true = ap is_issuer (sym to) ∙ issuer in cc e
-
-not_of : (lost : Option ℕ) (n : ℕ) (f : Plain) (m : Message) (c : Option Open) → IsOf lost n f m c → IsNot c m.op.0 → ⊥
-not_of lost n f m None of none = of
-not_of lost n f m (Some o) of none = eqb-false m.op.0 o.number.0 none of.0
-
-not_of_move : (m : Message) (c : Option Open) → IsOfMove m c → IsNot c m.op.0 → ⊥
-not_of_move m None of none = of
-not_of_move m (Some o) of none = eqb-false m.op.0 o.number.0 none of.0
-
--- a message of neither the open operation nor the move answers an old drain
-pub is_old : (lost : Option ℕ) (n : ℕ) (f : Plain) (current move : Option Open) (next : ℕ) (m : Message) → is_issuer m.to ≡ true → IsNot current m.op.0 → IsNot move m.op.0 → Pends lost n f current move next m → IsOld lost current move next m
-is_old lost n f current move next m issuer not_current not_move (OfOperation of) = absurd (not_of lost n f m current of not_current)
-is_old lost n f current move next m issuer not_current not_move (OfMove of) = absurd (not_of_move m move of not_move)
-is_old lost n f current move next m issuer not_current not_move (OfBackground of) = absurd (no_batch_to_issuer m of.of issuer of.batch)
-is_old lost n f current move next m issuer not_current not_move (Left old) = old
-
--- who gave an answer of fewer messages gave it of all
-pub gave_less : (p : Place) (net net' : List Message) (m : Message) → Split net net' m → (c : Option Open) → gave_answer p net' c ≡ true → gave_answer p net c ≡ true
-gave_less p net net' m split None e = e
-gave_less p net net' m split (Some o) e = by (has_answered p o.answers) e
-  where
-    by : (a : Bool) → (a || list_any (is_answer_from o p) net') ≡ true → (a || list_any (is_answer_from o p) net) ≡ true
-    by true e = refl
-    by false e = any_less (is_answer_from o p) net net' m split e
-
--- an operation is complete as before where the message isn't its own
-pub done_same : (net net' : List Message) (m : Message) → Split net net' m → (c : Option Open) → IsNot c m.op.0 → is_done net c ≡ is_done net' c
-done_same net net' m split None none = refl
-done_same net net' m split (Some o) none = ap (λ (b : Bool). all_answered o.targets o.answers && not b) (any_same (λ (m : Message). m.op.0 == o.number.0) net net' m split none)
-
-storage_same : (net net' : List Message) (m : Message) → Split net net' m → is_issuer m.to ≡ true → (h : Option Healing) (c : Option Open) → is_storage_true net h c ≡ is_storage_true net' h c
-storage_same net net' m split issuer h None = refl
-storage_same net net' m split issuer h (Some o) =
-    ap (λ (b : Bool). not (heals_target h (Some o)) && not (list_any (asks_storage_by o.number.0) o.unsent || b)) (any_same (asks_storage_by o.number.0) net net' m split (unasked (m.op.0 == o.number.0) (issuer_no_storage m.to issuer)))
-  where
-    unasked : (a : Bool) → same_place m.to place.Storage ≡ false → (a && same_place m.to place.Storage) ≡ false
-    unasked true e = e
-    unasked false e = refl
 
 module _ (lost : Option ℕ) (t : Track) (m : Message) (may : MayDeliver t m) (issuer : is_issuer m.to ≡ true) (not_current : IsNot t.current m.op.0) (not_move : IsNot (healing_move t.healing) m.op.0) (middle : Middle lost t) where
   abbrev rest_of : List Message
@@ -141,102 +36,51 @@ module _ (lost : Option ℕ) (t : Track) (m : Message) (may : MayDeliver t m) (i
     due = t.due;
   }
 
-  split : Split t.net rest_of m
-  split = takes-one t.shape.deliveries t.delivered t.net m may.chosen
-
-  before : all_pending t ≡ t.net
-  before = ap (λ (ms : List Message). t.net ++ ms) may.owed ∙ append-nil t.net
-
-  later : rest_of ++ t.owed ≡ rest_of
-  later = ap (λ (ms : List Message). rest_of ++ ms) may.owed ∙ append-nil rest_of
-
-  -- the same between all that is pending before and after
-  whole : Split (all_pending t) (rest_of ++ t.owed) m
-  whole = record { front = split.front; back = split.back; whole = before ∙ split.whole; rest = later ∙ split.rest }
-
   pends : MayPend lost (memory_count t.shape) t.plain t.current (healing_move t.healing) t.next m × AllByRecursion (MayPend lost (memory_count t.shape) t.plain t.current (healing_move t.healing) t.next) (rest_of ++ t.owed)
-  pends = all_taken (MayPend lost (memory_count t.shape) t.plain t.current (healing_move t.healing) t.next) (all_pending t) (rest_of ++ t.owed) m whole middle.pending
+  pends = all_taken (MayPend lost (memory_count t.shape) t.plain t.current (healing_move t.healing) t.next) (all_pending t) (rest_of ++ t.owed) m (whole t m may) middle.pending
 
   old : IsOld lost t.current (healing_move t.healing) t.next m
   old = is_old lost (memory_count t.shape) t.plain t.current (healing_move t.healing) t.next m issuer not_current not_move pends.0.kind
 
-  no_batch : (k : ℕ) → is_background k m ≡ false
-  no_batch k = ap (λ (b : Bool). b && (same_place m.from (memory k) || same_place m.to (memory k))) (not_zero m.op.0 old.some)
-    where
-      not_zero : (n : ℕ) → 0 < n → (n == 0) ≡ false
-      not_zero n some = elim (eqb_tells n 0) [
-        | inl e ↦ let none = e.1 in absurd (omega (arith, none, some))
-        | inr e ↦ e.0
-      ]
-
-  batches_same : (k : ℕ) → background k (rest_of ++ t.owed) ≡ background k (all_pending t)
-  batches_same k = (background-taken k (all_pending t) (rest_of ++ t.owed) m whole).0 (no_batch k)
-
-  all_sent : (o : Open) → is_waiting t.healing (Some o) ≡ true → IsReady t o → (length o.unsent == 0) ≡ true
-  all_sent o waits (inl all) = all
-  all_sent o waits (inr e) = sym (ap (λ (h : Option Healing). is_waiting h (Some o)) e.2) ∙ waits
-
   current_goes : (c : Option Open) → is_waiting t.healing c ≡ true → CurrentFits t c → CurrentFits (taken t) c
   current_goes None waits fits = tt
-  current_goes (Some o) waits fits = (fits.0, fits.1, inl (all_sent o waits fits.2))
-
-  between_goes : (x : Mem) (c next : ℕ) (done : List Move) (move : Option Open) (got : Option Body) (ahead : List Move) → IsNot move m.op.0 → Between (scene_of t) c (all_pending t) next x done move got ahead → Between (scene_of t) c (rest_of ++ t.owed) next x done move got ahead
-  between_goes x c next done None got ahead none all = all
-  between_goes x c next done (Some o) got [] none all = all
-  between_goes x c next done (Some o) got (move ∷ ahead) none all =
-      let fits = all.2 in
-      let asked : is_asked_still o.number.0 (all_pending t) ≡ is_asked_still o.number.0 (rest_of ++ t.owed) =
-          any_same (λ (m : Message). m.op.0 == o.number.0 && not (same_place m.to place.Manager)) (all_pending t) (rest_of ++ t.owed) m whole (ap (λ (b : Bool). b && not (same_place m.to place.Manager)) none) in
-      let same : count_number o.number.0 (all_pending t) ≡ count_number o.number.0 (rest_of ++ t.owed) = count_same o.number.0 (all_pending t) (rest_of ++ t.owed) m whole none in
-      (all.0, all.1, record {
-        to = fits.to;
-        told = fits.told;
-        is = fits.is;
-        receiver = fits.receiver;
-        hands = fits.hands;
-        by = fits.by;
-        targets = fits.targets;
-        sent = fits.sent;
-        some = fits.some;
-        below = fits.below;
-        once = ap (λ (k : ℕ). k + length o.answers + count_drains o.number.0 t.mems) (sym same) ∙ fits.once;
-        answers = fits.answers;
-        answering = (all_taken _ (all_pending t) (rest_of ++ t.owed) m whole fits.answering).1;
-      }, λ e. all.3 (asked ∙ e), λ e. all.4 (asked ∙ e))
+  current_goes (Some o) waits fits = (fits.0, fits.1, inl (all_sent t m may o waits fits.2))
 
   heal_goes : (h : Option Healing) → IsNot (healing_move h) m.op.0 → HealFits lost t h → HealFits lost (taken t) h
   heal_goes None none fits = fits
   heal_goes (Some h) none fits =
-      let holds = fits.1 in
-      (fits.0, record {
-        x = holds.x;
-        at = holds.at;
-        done = holds.done;
-        ahead = holds.ahead;
-        all = holds.all;
-        rest = holds.rest;
-        between = between_goes holds.x h.memory.0 t.next holds.done h.current h.got holds.ahead none holds.between;
-        log = holds.log;
-        out = holds.out;
-        drains = holds.drains;
-        blocks = holds.blocks;
-        background = batches_same h.memory.0 ∙ holds.background;
-        pages = holds.pages;
-        forgotten = back_false (gave_answer (memory h.memory.0) (all_pending t) t.current) (gave_answer (memory h.memory.0) (rest_of ++ t.owed) t.current) (gave_less (memory h.memory.0) (all_pending t) (rest_of ++ t.owed) m whole t.current) holds.forgotten;
-        one_done = λ done. sym (done_same t.net rest_of m split t.current not_current) ∙ holds.one_done (done_same t.net rest_of m split h.current none ∙ done);
-        no_second = holds.no_second;
-      })
+      let holds = fits.1 in (
+        fits.0,
+        record {
+          x = holds.x;
+          at = holds.at;
+          done = holds.done;
+          ahead = holds.ahead;
+          all = holds.all;
+          rest = holds.rest;
+          between = between_goes t m may (scene_of t) holds.x h.memory.0 t.next holds.done h.current h.got holds.ahead none holds.between;
+          log = holds.log;
+          out = holds.out;
+          drains = holds.drains;
+          blocks = holds.blocks;
+          background = batches_same t m may old.some h.memory.0 ∙ holds.background;
+          pages = holds.pages;
+          forgotten = back_false (gave_answer (memory h.memory.0) (all_pending t) t.current) (gave_answer (memory h.memory.0) (rest_of ++ t.owed) t.current) (gave_less (memory h.memory.0) (all_pending t) (rest_of ++ t.owed) m (whole t m may) t.current) holds.forgotten;
+          one_done = λ done. sym (done_same t.net rest_of m (split t m may) t.current not_current) ∙ holds.one_done (done_same t.net rest_of m (split t m may) h.current none ∙ done);
+          no_second = holds.no_second;
+        },
+      )
 
   images_same : (k : ℕ) → images_due (taken t) k ≡ true → images_due t k ≡ true
   images_same k e = by (is_writing t.current) e
     where
       by : (b : Bool) → cond b (gave_answer (memory k) (rest_of ++ t.owed) t.current) (is_storage_true rest_of t.healing t.current && gave_answer place.Storage (rest_of ++ t.owed) t.current) ≡ true → cond b (gave_answer (memory k) (all_pending t) t.current) (is_storage_true t.net t.healing t.current && gave_answer place.Storage (all_pending t) t.current) ≡ true
-      by true e = gave_less (memory k) (all_pending t) (rest_of ++ t.owed) m whole t.current e
+      by true e = gave_less (memory k) (all_pending t) (rest_of ++ t.owed) m (whole t m may) t.current e
       by false e =
           let both = both_true (is_storage_true rest_of t.healing t.current) (gave_answer place.Storage (rest_of ++ t.owed) t.current) e in
           and_true (is_storage_true t.net t.healing t.current) (gave_answer place.Storage (all_pending t) t.current)
-          (storage_same t.net rest_of m split issuer t.healing t.current ∙ both.0)
-          (gave_less place.Storage (all_pending t) (rest_of ++ t.owed) m whole t.current both.1)
+          (storage_same t.net rest_of m (split t m may) issuer t.healing t.current ∙ both.0)
+          (gave_less place.Storage (all_pending t) (rest_of ++ t.owed) m (whole t m may) t.current both.1)
 
   drop_keeps : Middle lost (taken t)
   drop_keeps = shift-keeps lost t taken_moment shift middle
@@ -252,10 +96,10 @@ module _ (lost : Option ℕ) (t : Track) (m : Message) (may : MayDeliver t m) (i
           healing = heal_goes t.healing not_move middle.healing;
           idle = middle.idle;
         };
-        answered = λ p. gave_less p (all_pending t) (rest_of ++ t.owed) m whole t.current;
+        answered = λ p. gave_less p (all_pending t) (rest_of ++ t.owed) m (whole t m may) t.current;
         images = images_same;
-        batches = batches_same;
-        changes = λ b none. back_false (list_any (λ (m : Message). changes_block b m.body) (all_pending t)) (list_any (λ (m : Message). changes_block b m.body) (rest_of ++ t.owed)) (any_less (λ (m : Message). changes_block b m.body) (all_pending t) (rest_of ++ t.owed) m whole) none;
+        batches = batches_same t m may old.some;
+        changes = changes_less t m may;
       }
 
 pub old-is-dropped : OldIsDropped

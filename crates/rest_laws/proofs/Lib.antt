@@ -6,4 +6,6 @@ pub mod Around
 pub mod Opened
 pub mod Stepping
 pub mod Sends
+pub mod Taken
 pub mod Dropped
+pub mod Noted

@@ -9,12 +9,13 @@
 mod laws;
 
 pub use laws::{
-    a_delivery_takes_one_out, answers_to_nobody_are_dropped_in_the_relation, areas_are_those_set, batches_stay_until_they_are_delivered,
-    entries_are_found_where_put, entries_that_go_are_not_found,
-    first_messages_are_sent_in_the_relation, lists_rise_with_one_more, lists_rise_without_some,
-    memories_guard_their_own, no_two_memories_share_a_secondary,
-    overlaid_pages_are_patched_in_order, patches_change_their_page, questions_of_the_others_stay,
-    rows_of_memories_keep_the_relation, rows_of_storage_keep_the_relation,
-    steps_of_messages_keep_the_relation, what_is_owed_is_sent_in_the_relation,
-    what_is_set_becomes_the_new, what_moves_holds_old_or_new,
+    a_delivery_takes_one_out, answers_are_noted_in_the_relation,
+    answers_to_nobody_are_dropped_in_the_relation, areas_are_those_set,
+    batches_stay_until_they_are_delivered, entries_are_found_where_put,
+    entries_that_go_are_not_found, first_messages_are_sent_in_the_relation,
+    lists_rise_with_one_more, lists_rise_without_some, memories_guard_their_own,
+    no_two_memories_share_a_secondary, overlaid_pages_are_patched_in_order,
+    patches_change_their_page, questions_of_the_others_stay, rows_of_memories_keep_the_relation,
+    rows_of_storage_keep_the_relation, steps_of_messages_keep_the_relation,
+    what_is_owed_is_sent_in_the_relation, what_is_set_becomes_the_new, what_moves_holds_old_or_new,
 };
