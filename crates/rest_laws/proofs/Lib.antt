@@ -9,3 +9,4 @@ pub mod Sends
 pub mod Taken
 pub mod Dropped
 pub mod Noted
+pub mod Reacted

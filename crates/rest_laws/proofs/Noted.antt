@@ -146,13 +146,13 @@ answers_so (Some patch) told wrote goes = ap (answers_to (Some patch)) (wrote re
 
 -- PLACES
 
-eqb_sym : (a b : ℕ) → (a == b) ≡ (b == a)
+pub eqb_sym : (a b : ℕ) → (a == b) ≡ (b == a)
 eqb_sym a b = elim (eqb_tells a b) [
   | inl e ↦ e.0 ∙ sym (eq-eqb b a (sym e.1))
   | inr e ↦ e.0 ∙ sym (ne_eqb b a (λ same. e.1 (sym same)))
 ]
 
-place_sym : (a b : Place) → same_place a b ≡ same_place b a
+pub place_sym : (a b : Place) → same_place a b ≡ same_place b a
 place_sym (Processor a) (Processor b) = eqb_sym a.0 b.0
 place_sym (Processor a) (Memory b) = refl
 place_sym (Processor a) Storage = refl
@@ -170,7 +170,7 @@ place_sym Manager (Memory b) = refl
 place_sym Manager Storage = refl
 place_sym Manager Manager = refl
 
-place_same : (a : Place) → same_place a a ≡ true
+pub place_same : (a : Place) → same_place a a ≡ true
 place_same (Processor a) = eq-eqb a.0 a.0 refl
 place_same (Memory a) = eq-eqb a.0 a.0 refl
 place_same Storage = refl
@@ -181,7 +181,7 @@ heals_same None o answers = refl
 heals_same (Some h) o answers = refl
 
 -- nothing is done where the next event is a delivery
-calm_moves : (t : Track) → is_calm t ≡ true → is_done t.net (healing_move t.healing) ≡ false
+pub calm_moves : (t : Track) → is_calm t ≡ true → is_done t.net (healing_move t.healing) ≡ false
 calm_moves t calm = by t.stopped (is_done t.net (healing_move t.healing)) (is_done t.net t.current) (is_crash_due t) calm
   where
     by : (s a b c : Bool) → (not s && not (a || b) && not c) ≡ true → a ≡ false

@@ -2,6 +2,8 @@
 use Rattle.std.proofs.Common.{◌≡◌, ◌⊎◌, ◌+◌, ◌<◌, ◌==◌, ◌&&◌, ◌||◌, [], ◌∷◌, ◌++◌, ◌∙◌, ℕ, Bool, List, None, Option, Some, ap, append-nil, arith, cond, false, inl, inr, length, not, refl, slice_get, subst, sym, true}
 use Rattle.std.proofs.lemmas.Bool.{eqb-false}
 use Rattle.std.proofs.lemmas.Bool.Decides.{eqb_tells}
+use Rattle.std.proofs.lemmas.List.Elements.{filter-append}
+use Rattle.std.proofs.lemmas.List.Folds.{list_any-append}
 use Rattle.std.specs.List.{AllByRecursion, list_any}
 use Rattle.lego_msg.specs.Deliveries.{MayDeliver, is_waiting, taken}
 use Rattle.lego_msg.specs.Places.{is_issuer, memory, same_place}
@@ -21,6 +23,7 @@ use Rattle.lego_rest.specs.Heals.{Between, HealFits, HealHolds, MoveFits, Scene,
 use Rattle.lego_rest.specs.Pending.{Goes, IsBatch, IsNot, IsOf, IsOfMove, IsOld, Left, MayPend, OfBackground, OfMove, OfOperation, Pends, Returns}
 use Rattle.lego_rest.specs.Rest.{CurrentFits, IsReady, Middle}
 use Rattle.rest_laws.proofs.Net.{any-taken, background-taken, takes-one}
+use Rattle.rest_laws.proofs.Opened.{all_both}
 use Rattle.rest_laws.proofs.Sends.{and_true, back_false, both_true, not_true}
 use Rattle.rest_laws.specs.Nets.{Split}
 use Rattle.lego_msg.specs.declared.place.Place.TheVariants as place
@@ -184,3 +187,60 @@ module _ (t : Track) (m : Message) (may : MayDeliver t m) where
 
   pub changes_less : (b : Block) → list_any (λ (m : Message). changes_block b m.body) (all_pending t) ≡ false → list_any (λ (m : Message). changes_block b m.body) (all_pending (taken t)) ≡ false
   changes_less b none = back_false (list_any (λ (m : Message). changes_block b m.body) (all_pending t)) (list_any (λ (m : Message). changes_block b m.body) (all_pending (taken t))) (any_less (λ (m : Message). changes_block b m.body) (all_pending t) (all_pending (taken t)) m whole) none
+
+-- ONE MORE MESSAGE, behind what is pending
+module _ (pending : List Message) (r : Message) where
+  pub any_more : (test : Message → Bool) → test r ≡ false → list_any test (pending ++ r ∷ []) ≡ list_any test pending
+  any_more test none = list_any-append test pending (r ∷ []) ∙ ap (λ (b : Bool). list_any test pending || (b || false)) none ∙ or_nothing (list_any test pending)
+    where
+      or_nothing : (b : Bool) → (b || false) ≡ b
+      or_nothing true = refl
+      or_nothing false = refl
+
+  pub background_more : 0 < r.op.0 → (k : ℕ) → background k (pending ++ r ∷ []) ≡ background k pending
+  background_more some k =
+      filter-append (is_background k) pending (r ∷ [])
+      ∙ ap (λ (b : Bool). background k pending ++ cond b (r ∷ []) []) (no_batch some k) ∙ append-nil (background k pending)
+    where
+      no_batch : 0 < r.op.0 → (k : ℕ) → is_background k r ≡ false
+      no_batch some k = ap (λ (b : Bool). b && (same_place r.from (memory k) || same_place r.to (memory k))) (not_zero r.op.0 some)
+        where
+          not_zero : (n : ℕ) → 0 < n → (n == 0) ≡ false
+          not_zero n some = elim (eqb_tells n 0) [
+            | inl e ↦ let none = e.1 in absurd (omega (arith, none, some))
+            | inr e ↦ e.0
+          ]
+
+  pub between_more : (w : Scene) (x : Mem) (c next : ℕ) (done : List Move) (move : Option Open) (got : Option Body) (ahead : List Move) → IsNot move r.op.0 → Between w c pending next x done move got ahead → Between w c (pending ++ r ∷ []) next x done move got ahead
+  between_more w x c next done None got ahead none all = all
+  between_more w x c next done (Some o) got [] none all = all
+  between_more w x c next done (Some o) got (move ∷ ahead) none all =
+      let fits = all.2 in
+      let asked : is_asked_still o.number.0 (pending ++ r ∷ []) ≡ is_asked_still o.number.0 pending =
+      any_more (λ (m : Message). m.op.0 == o.number.0 && not (same_place m.to place.Manager)) (ap (λ (b : Bool). b && not (same_place r.to place.Manager)) none) in
+      let zero : cond (r.op.0 == o.number.0) 1 0 ≡ 0 = ap (λ (b : Bool). cond b 1 0) none in
+      let both : count_number o.number.0 (pending ++ r ∷ []) ≡ count_number o.number.0 pending + (cond (r.op.0 == o.number.0) 1 0 + 0) = count_both o.number.0 pending (r ∷ []) in
+      let same : count_number o.number.0 (pending ++ r ∷ []) ≡ count_number o.number.0 pending = by (count_number o.number.0 (pending ++ r ∷ [])) (count_number o.number.0 pending) (cond (r.op.0 == o.number.0) 1 0) both zero in (
+        all.0,
+        all.1,
+        record {
+          to = fits.to;
+          told = fits.told;
+          is = fits.is;
+          receiver = fits.receiver;
+          hands = fits.hands;
+          by = fits.by;
+          targets = fits.targets;
+          sent = fits.sent;
+          some = fits.some;
+          below = fits.below;
+          once = ap (λ (k : ℕ). k + length o.answers + count_drains o.number.0 w.mems) same ∙ fits.once;
+          answers = fits.answers;
+          answering = all_both _ pending (r ∷ []) fits.answering (λ number. absurd (eqb-false r.op.0 o.number.0 none number), tt);
+        },
+        λ e. all.3 (sym asked ∙ e),
+        λ e. all.4 (sym asked ∙ e),
+      )
+    where
+      by : (a b one : ℕ) → a ≡ b + (one + 0) → one ≡ 0 → a ≡ b
+      by a b one both zero = omega (arith, both, zero)

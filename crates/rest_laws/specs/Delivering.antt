@@ -1,9 +1,11 @@
--- Deliveries to issuers keep the relation: of what is of no open operation any more, and of an answer to the open one.
-use Rattle.std.specs.Prelude.{◌≡◌, ℕ, None, Option, Some, false, true}
+-- Deliveries to issuers keep the relation: of what is of no open operation any more, and of what is of the
+-- open one.
+use Rattle.std.specs.Prelude.{◌≡◌, [], ◌∷◌, ℕ, None, Option, Some, false, true}
 use Rattle.lego_msg.specs.Deliveries.{MayDeliver, answered, reaction_of, stops, taken}
 use Rattle.lego_msg.specs.Operations.{patch_of}
 use Rattle.lego_msg.specs.Places.{is_issuer}
 use Rattle.lego_msg.specs.Track.{Track, healing_move}
+use Rattle.lego_msg.specs.declared.body.Body.{Body}
 use Rattle.lego_msg.specs.declared.message.Message.{Message}
 use Rattle.lego_msg.specs.declared.operation.Open.{Open}
 use Rattle.lego_rest.specs.Pending.{IsNot}
@@ -19,3 +21,9 @@ abbrev pub AnswerIsNoted : Type 0
 AnswerIsNoted = (lost : Option ℕ) (t : Track) (o : Open) (m : Message) → t.current ≡ Some o → MayDeliver t m → is_issuer m.to ≡ true →
     m.op.0 ≡ o.number.0 → IsNot (healing_move t.healing) m.op.0 → stops m.body ≡ false → reaction_of (patch_of o.operation) m.body ≡ None →
     Middle lost t → Middle lost (record (taken t) { current = Some (answered o m) })
+
+-- an issuer reacts to a full log or a drained one: it owes a message to the secondary
+abbrev pub ReactionIsOwed : Type 0
+ReactionIsOwed = (lost : Option ℕ) (t : Track) (o : Open) (m : Message) (what : Body) → t.current ≡ Some o → MayDeliver t m → is_issuer m.to ≡ true →
+    m.op.0 ≡ o.number.0 → IsNot (healing_move t.healing) m.op.0 → reaction_of (patch_of o.operation) m.body ≡ Some what →
+    Middle lost t → Middle lost (record (taken t) { owed = record { from = m.to; to = m.from; op = m.op; body = what } ∷ [] })

@@ -6,7 +6,7 @@ ghost use Rattle.rest_laws.specs.Moves.{SetsMove, HoldsMove};
 ghost use Rattle.rest_laws.specs.Order.{PutRises, WithoutRises};
 ghost use Rattle.rest_laws.specs.Around.{SecondariesDiffer, GuardsItsOwn};
 ghost use Rattle.rest_laws.specs.Steps.{ShiftKeeps, RowKeeps, StoringKeeps};
-ghost use Rattle.rest_laws.specs.Delivering.{OldIsDropped, AnswerIsNoted};
+ghost use Rattle.rest_laws.specs.Delivering.{OldIsDropped, AnswerIsNoted, ReactionIsOwed};
 ghost use Rattle.rest_laws.specs.Sending.{OwedIsSent, FirstIsSent};
 
 /// An entry that is put is found under its key.
@@ -112,4 +112,9 @@ pub fn answers_to_nobody_are_dropped_in_the_relation()
 /// An issuer's delivery of an answer to its open operation keeps the relation.
 pub fn answers_are_noted_in_the_relation()
     ensures { AnswerIsNoted }
+{}
+
+/// An issuer's delivery of a full log or a drained one, which it reacts to, keeps the relation.
+pub fn reactions_are_owed_in_the_relation()
+    ensures { ReactionIsOwed }
 {}
