@@ -10,3 +10,4 @@ pub mod Taken
 pub mod Dropped
 pub mod Noted
 pub mod Reacted
+pub mod Begun

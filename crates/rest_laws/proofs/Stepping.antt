@@ -30,7 +30,7 @@ set_length (y ∷ ys) (suc i) x = ap suc (set_length ys i x)
 -- WHAT STAYS
 
 -- a batch is on its way as before
-batch_stays : (before later : List Message) (images : List PageImage) (x : Mem) → background x.id later ≡ background x.id before → BatchFits before images x → BatchFits later images x
+pub batch_stays : (before later : List Message) (images : List PageImage) (x : Mem) → background x.id later ≡ background x.id before → BatchFits before images x → BatchFits later images x
 batch_stays before later images x same fits = record {
   none = λ out. same ∙ fits.none out;
   once = λ some. by (fits.once some);

@@ -6,3 +6,4 @@ pub mod Around
 pub mod Steps
 pub mod Sending
 pub mod Delivering
+pub mod Beginning

@@ -6,6 +6,7 @@ ghost use Rattle.rest_laws.specs.Moves.{SetsMove, HoldsMove};
 ghost use Rattle.rest_laws.specs.Order.{PutRises, WithoutRises};
 ghost use Rattle.rest_laws.specs.Around.{SecondariesDiffer, GuardsItsOwn};
 ghost use Rattle.rest_laws.specs.Steps.{ShiftKeeps, RowKeeps, StoringKeeps};
+ghost use Rattle.rest_laws.specs.Beginning.{OperationBegins};
 ghost use Rattle.rest_laws.specs.Delivering.{OldIsDropped, AnswerIsNoted, ReactionIsOwed};
 ghost use Rattle.rest_laws.specs.Sending.{OwedIsSent, FirstIsSent};
 
@@ -117,4 +118,9 @@ pub fn answers_are_noted_in_the_relation()
 /// An issuer's delivery of a full log or a drained one, which it reacts to, keeps the relation.
 pub fn reactions_are_owed_in_the_relation()
     ensures { ReactionIsOwed }
+{}
+
+/// The first message of an operation that is called for and granted keeps the relation.
+pub fn operations_begin_in_the_relation()
+    ensures { OperationBegins }
 {}
