@@ -11,3 +11,4 @@ pub mod Dropped
 pub mod Noted
 pub mod Reacted
 pub mod Begun
+pub mod Ended

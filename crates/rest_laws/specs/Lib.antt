@@ -7,3 +7,4 @@ pub mod Steps
 pub mod Sending
 pub mod Delivering
 pub mod Beginning
+pub mod Completing

@@ -7,6 +7,7 @@ ghost use Rattle.rest_laws.specs.Order.{PutRises, WithoutRises};
 ghost use Rattle.rest_laws.specs.Around.{SecondariesDiffer, GuardsItsOwn};
 ghost use Rattle.rest_laws.specs.Steps.{ShiftKeeps, RowKeeps, StoringKeeps};
 ghost use Rattle.rest_laws.specs.Beginning.{OperationBegins};
+ghost use Rattle.rest_laws.specs.Completing.{OperationEnds};
 ghost use Rattle.rest_laws.specs.Delivering.{OldIsDropped, AnswerIsNoted, ReactionIsOwed};
 ghost use Rattle.rest_laws.specs.Sending.{OwedIsSent, FirstIsSent};
 
@@ -123,4 +124,9 @@ pub fn reactions_are_owed_in_the_relation()
 /// The first message of an operation that is called for and granted keeps the relation.
 pub fn operations_begin_in_the_relation()
     ensures { OperationBegins }
+{}
+
+/// The completion of an operation keeps the relation with nothing lost, where the law of its kind holds.
+pub fn operations_end_in_the_relation()
+    ensures { OperationEnds }
 {}
