@@ -1,9 +1,12 @@
 //! Laws by which the relation between the components and the plain map is kept: of lists, of pending messages, of the
-//! parts of a memory.
+//! parts of a memory, and of events.
 //!
 //! `specs/Lists` has what is found in a list after it changed, `specs/Nets` what is said of pending messages once one is
-//! delivered, `specs/Moves` how the cells that a component holds go from the old to the new,
-//! `specs/Order` what keeps a list in the order of its keys, `specs/Around` how memories guard each other in a circle.
+//! delivered, `specs/Moves` how the cells that a component holds go from the old to the new, `specs/Order` what keeps a
+//! list in the order of its keys, `specs/Around` how memories guard each other in a circle. `specs/Steps` says what is
+//! owed of a step that changes what is pending, a memory, or storage, so that the relation is kept, whatever kind of
+//! operation is open and whether or not a memory is lost; `specs/Sending`, `specs/Beginning`, `specs/Delivering` and
+//! `specs/Completing` say it of events.
 #![tactic(auto)]
 
 mod laws;
@@ -14,8 +17,10 @@ pub use laws::{
     batches_stay_until_they_are_delivered, entries_are_found_where_put,
     entries_that_go_are_not_found, first_messages_are_sent_in_the_relation,
     lists_rise_with_one_more, lists_rise_without_some, memories_guard_their_own,
-    no_two_memories_share_a_secondary, overlaid_pages_are_patched_in_order,
-    patches_change_their_page, questions_of_the_others_stay, rows_of_memories_keep_the_relation,
-    rows_of_storage_keep_the_relation, steps_of_messages_keep_the_relation,
-    what_is_owed_is_sent_in_the_relation, what_is_set_becomes_the_new, what_moves_holds_old_or_new,
+    no_two_memories_share_a_secondary, operations_begin_in_the_relation,
+    operations_end_in_the_relation, overlaid_pages_are_patched_in_order, patches_change_their_page,
+    questions_of_the_others_stay, reactions_are_owed_in_the_relation,
+    rows_of_memories_keep_the_relation, rows_of_storage_keep_the_relation,
+    steps_of_messages_keep_the_relation, what_is_owed_is_sent_in_the_relation,
+    what_is_set_becomes_the_new, what_moves_holds_old_or_new,
 };
