@@ -1,0 +1,3 @@
+pub mod Targets
+pub mod Tracked
+pub mod Laws
