@@ -1,0 +1,3 @@
+pub mod Processors
+pub mod Owners
+pub mod Laws
