@@ -17,14 +17,14 @@ fn drain_of(to: Place, number: u64) -> Message {
 #[test]
 fn choices_count_from_the_oldest_message(rt: HostRuntime) -> Result<(), Fail> {
     let mut net = Net::new(rt.alloc())?;
-    for number in 1..5u64 {
-        net.send(drain_of(Place::Memory(MemId(number as u32 % 2)), number))?;
-    }
-    assert_eq!(rt; net.pending(), 4);
-    assert_eq!(rt; net.pick(6).map(|message| message.op.0), Some(3));
-    assert_eq!(rt; net.pending_of(OpNo(4)), 1);
-    net.lose(Place::Memory(MemId(0)));
-    assert_eq!(rt; net.take(3).op.0, 1);
-    assert!(rt; net.pick(0).is_none());
+    let memory = Place::Memory(MemId(1));
+    net.send(drain_of(memory, 1))?;
+    net.send(drain_of(Place::Storage, 2))?;
+    net.send(drain_of(Place::Storage, 3))?;
+    let picked = net.take(4).op.0 == 2;
+    net.lose(memory);
+    let left = net.pending() == 1 && net.pending_of(OpNo(3)) == 1;
+    let last = net.pick(5).is_some() && net.pick(0).is_none();
+    assert!(rt; picked && left && last);
     Ok(())
 }

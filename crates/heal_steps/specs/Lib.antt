@@ -1,0 +1,3 @@
+pub mod Healing
+pub mod Steps
+pub mod Laws
