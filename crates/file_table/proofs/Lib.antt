@@ -1,0 +1,4 @@
+pub mod Numbered
+pub mod Pieces
+pub mod Named
+pub mod Blocks
