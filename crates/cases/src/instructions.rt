@@ -87,7 +87,13 @@ fff5c51b 81f6159b 8016d61b c107569b 80c5853b c124843b 807312bb 80f756bb c138d83b
 
 // A word and what it stands for, as a case writes it.
 fn written(alloc: Global, word: u32, instr: &Instr) -> Result<String, Fail> {
-    let Instr { op, rd, rs1, rs2, imm } = *instr;
+    let Instr {
+        op,
+        rd,
+        rs1,
+        rs2,
+        imm,
+    } = *instr;
     Ok(format!(in alloc; "{word:08x} {op:?} {rd} {rs1} {rs2} {imm} {instr}")?)
 }
 

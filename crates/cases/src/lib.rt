@@ -10,7 +10,13 @@ mod areas;
 #[cfg(test)]
 mod descriptions;
 #[cfg(test)]
+mod files;
+#[cfg(test)]
+mod healing;
+#[cfg(test)]
 mod hi_file;
+#[cfg(test)]
+mod homes;
 #[cfg(test)]
 mod images;
 #[cfg(test)]
@@ -18,14 +24,22 @@ mod instructions;
 #[cfg(test)]
 mod lists;
 #[cfg(test)]
+mod logs;
+#[cfg(test)]
 mod memory;
 #[cfg(test)]
 mod messages;
 #[cfg(test)]
+mod network;
+#[cfg(test)]
 mod objects;
+#[cfg(test)]
+mod owners;
 #[cfg(test)]
 mod programs;
 #[cfg(test)]
 mod reports;
 #[cfg(test)]
 mod stacks;
+#[cfg(test)]
+mod targets;

@@ -1,8 +1,8 @@
 //! Each object of the outside world once, on its happy path and at each failure.
 
 use host_io::{
-    CalmSource, Depot, Failed, FileDepot, Got, InputStop, MemDepot, MemSink, MemSource, Sink, Source,
-    StdSink, StdSource, read_all, write_all,
+    CalmSource, Depot, Failed, FileDepot, Got, InputStop, MemDepot, MemSink, MemSource, Sink,
+    Source, StdSink, StdSource, read_all, write_all,
 };
 use std::fs;
 use std::io::Cursor;

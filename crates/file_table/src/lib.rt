@@ -14,6 +14,3 @@ mod names;
 
 pub use fault::FileFault;
 pub use files::Files;
-
-#[cfg(test)]
-mod tests;

@@ -2,11 +2,11 @@
 
 ghost use Rattle.std.specs.Prelude.{◌≡◌, ◌<◌, ◌++◌, IfOk, OnOk};
 ghost use Rattle.lego_msg.specs.Healing.{images_back, images_anew};
-ghost use Rattle.lego_msg.specs.Places.{guarded_by, secondary_of};
 ghost use Rattle.heal_steps.specs.Steps.{entries_of, moves_for, meta_moved, drained_first};
 
 use lego_base::{MemId, NoMemory, Pid, RegionNo};
 use lego_msg::{Body, Move, Place, Role};
+use placement::{guarded, secondary};
 use std::alloc::Global;
 use std::collections::VecDeque;
 
@@ -119,22 +119,4 @@ fn add_pages(
         moves.push_back(Move::HandsPages { pid, region })?;
     }
     Ok(())
-}
-
-// The memory that keeps the log and the spare of another one.
-fn secondary(memory: MemId, memories: u32) -> MemId
-    requires { 0 < memories }
-    ensures { result ≡ record { 0 = secondary_of memories memory.0 } }
-{
-    let next = memory.0 as u64 + 1;
-    MemId((next % memories as u64) as u32)
-}
-
-// The memory whose secondary this is.
-fn guarded(memory: MemId, memories: u32) -> MemId
-    requires { 0 < memories }
-    ensures { result ≡ record { 0 = guarded_by memories memory.0 } }
-{
-    let before = memory.0 as u64 + memories as u64 - 1;
-    MemId((before % memories as u64) as u32)
 }

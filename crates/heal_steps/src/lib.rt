@@ -12,6 +12,3 @@ mod laws;
 
 pub use heal::{Heal, HealMove};
 pub use laws::{all_moves_are_those_of_healing, moves_go_out_in_order};
-
-#[cfg(test)]
-mod tests;

@@ -27,7 +27,7 @@ module _ {X : Type 0} (key : X → Key) where
       by false false = more
 
   -- the first of a list that rises without some of its entries
-  above_rest : (z x : X) (ys : List X) → is_below (key z) (key x) ≡ true → IsAbove key x ys → IsAbove key z ys
+  pub above_rest : (z x : X) (ys : List X) → is_below (key z) (key x) ≡ true → IsAbove key x ys → IsAbove key z ys
   above_rest z x [] less more = tt
   above_rest z x (y ∷ ys) less more = below-trans (key z) (key x) (key y) less more
 

@@ -11,7 +11,7 @@ use std::marker::Model;
 pub struct LogFull(pub Patch);
 
 /// The patches that a secondary keeps, oldest first, and the batch of first ones that is on its way to storage. At
-/// most `room` patches are held (LegoOS, section 4.5).
+/// most `room` patches are held (LegoOS, OSDI 2018, on reliability and failure handling).
 #[derive(Debug, Drop)]
 pub struct Log {
     room: u32,
@@ -33,7 +33,7 @@ impl Model for Log {
 impl Log {
     ghost use Rattle.mem_log.specs.LogState.{empty_log, is_full, with_patch, Started, without_batch, is_half_full};
 
-    /// An empty log with room for so many patches.
+    /// An empty log with room for `room` patches.
     pub fn new(alloc: Global, room: u32) -> Result<Log, NoMemory>
         ensures { IfOk result (λ log. log ≡ empty_log room) }
     {

@@ -11,6 +11,3 @@ mod net;
 
 pub use laws::{choices_follow_the_list, counts_tell_what_is_pending};
 pub use net::Net;
-
-#[cfg(test)]
-mod tests;

@@ -11,6 +11,3 @@ mod op;
 
 pub use laws::{flags_follow_the_answers, flags_follow_the_events};
 pub use op::{Op, Target};
-
-#[cfg(test)]
-mod tests;

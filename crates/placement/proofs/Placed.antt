@@ -3,7 +3,7 @@ use Rattle.std.proofs.Common.{◌≡◌, ◌+◌, ◌&&◌, [], ◌∷◌, ◌�
 use Rattle.lego_base.specs.Keys.{IsAbove, Key, Rises, find, is_below, is_of, key_at, put, put_all, same_key}
 use Rattle.lego_base.specs.declared.records.HomeEntry.{HomeEntry}
 use Rattle.lego_msg.specs.Maps.{home_key, owned_by, owner_in}
-use Rattle.placement.proofs.Order.{above_rest, put_rises, same_is, same_self, without_rises}
+use Rattle.keyed_list.proofs.Listed.{Rises-put, Rises-without, above_rest, find-put}
 use Rattle.placement.specs.Laws.{AssignedIsFound, OwnersRise, TurnsGoByTheCount}
 use Rattle.placement.specs.Owners.{Assigns, Drops, Inherits, Owned, Placing, assignments, entry, handed_on, in_turn, next_owner, no_owners, placed, placed_all}
 
@@ -28,53 +28,25 @@ turns-go-by-the-count memories placement past =
 
 -- WHAT IS FOUND after an entry is put
 
-hides : (b c : Bool) (x y : HomeEntry) (o : Option HomeEntry) → b ≡ c → cond b (Some x) o ≡ cond b (Some x) (cond c (Some y) o)
-hides true c x y o e = refl
-hides false true x y o e = cc e
-hides false false x y o e = refl
-
-change : (b c : Bool) (x y : HomeEntry) (o : Option HomeEntry) → (b ≡ true → c ≡ true → ⊥) → cond c (Some y) (cond b (Some x) o) ≡ cond b (Some x) (cond c (Some y) o)
-change true true x y o differ = absurd (differ refl refl)
-change true false x y o differ = refl
-change false c x y o differ = refl
-
-not_both : (b : Bool) → b ≡ true → b ≡ false → ⊥
-not_both true f g = cc g
-not_both false f g = cc f
-
-put_at : (x : HomeEntry) (ys : List HomeEntry) (k : Key) → find home_key k (put home_key x ys) ≡ cond (same_key (home_key x) k) (Some x) (find home_key k ys)
-put_at x [] k = refl
-put_at x (y ∷ ys) k = below (is_below (home_key x) (home_key y)) (put_at x ys k)
-  where
-    equal : (c : Bool) → same_key (home_key x) (home_key y) ≡ c → find home_key k (put home_key x ys) ≡ cond (same_key (home_key x) k) (Some x) (find home_key k ys) → find home_key k (cond c (x ∷ ys) (y ∷ put home_key x ys)) ≡ cond (same_key (home_key x) k) (Some x) (cond (same_key (home_key y) k) (Some y) (find home_key k ys))
-    equal true e rest = hides (same_key (home_key x) k) (same_key (home_key y) k) x y (find home_key k ys) (ap (λ (j : Key). same_key j k) (same_is (home_key x) (home_key y) e))
-    equal false e rest =
-        ap (λ (o : Option HomeEntry). cond (same_key (home_key y) k) (Some y) o) rest
-        ∙ change (same_key (home_key x) k) (same_key (home_key y) k) x y (find home_key k ys) (λ f g. not_both (same_key (home_key x) (home_key y)) (ap (same_key (home_key x)) (same_is (home_key y) k g ∙ sym (same_is (home_key x) k f)) ∙ same_self (home_key x)) e)
-
-    below : (b : Bool) → find home_key k (put home_key x ys) ≡ cond (same_key (home_key x) k) (Some x) (find home_key k ys) → find home_key k (cond b (x ∷ y ∷ ys) (cond (same_key (home_key x) (home_key y)) (x ∷ ys) (y ∷ put home_key x ys))) ≡ cond (same_key (home_key x) k) (Some x) (cond (same_key (home_key y) k) (Some y) (find home_key k ys))
-    below true rest = refl
-    below false rest = equal (same_key (home_key x) (home_key y)) refl rest
-
 owner_either : (b : Bool) (x : HomeEntry) (o : Option HomeEntry) → owner_in (cond b (Some x) o) ≡ cond b (Some x.owner) (owner_in o)
 owner_either true x o = refl
 owner_either false x o = refl
 
 pub assigned-is-found : AssignedIsFound
 assigned-is-found o p r pid region =
-    ap owner_in (put_at (entry p r (next_owner o)) o.owners (key_at pid region))
+    ap owner_in (find-put home_key (entry p r (next_owner o)) o.owners (key_at pid region))
     ∙ owner_either (eqb p.0 pid && eqb r.0 region) (entry p r (next_owner o)) (find home_key (key_at pid region) o.owners)
 
 -- ORDER
 
 pub put_all_rises : (xs ys : List HomeEntry) → Rises home_key ys → Rises home_key (put_all home_key xs ys)
 put_all_rises [] ys rise = rise
-put_all_rises (x ∷ xs) ys rise = put_all_rises xs (put home_key x ys) (put_rises home_key x ys rise)
+put_all_rises (x ∷ xs) ys rise = put_all_rises xs (put home_key x ys) (Rises-put home_key x ys rise)
 
 placed_rises : (p : Placing) (o : Owned) → Rises home_key o.owners → Rises home_key (placed p o).owners
-placed_rises (Assigns pid region) o rise = put_rises home_key (entry pid region (next_owner o)) o.owners rise
+placed_rises (Assigns pid region) o rise = Rises-put home_key (entry pid region (next_owner o)) o.owners rise
 placed_rises (Inherits parent child) o rise = put_all_rises (handed_on parent child o.owners) o.owners rise
-placed_rises (Drops pid) o rise = without_rises home_key (is_of pid.0) o.owners rise
+placed_rises (Drops pid) o rise = Rises-without home_key (is_of pid.0) o.owners rise
 
 all_rises : (past : List Placing) (o : Owned) → Rises home_key o.owners → Rises home_key (placed_all past o).owners
 all_rises [] o rise = rise

@@ -14,8 +14,5 @@ mod table;
 pub use laws::{
     owners_are_found_where_assigned, owners_rise, turns_go_by_the_count_of_assignments,
 };
-pub use places::{home, processor_of, secondary};
+pub use places::{guarded, home, processor_of, secondary};
 pub use table::Table;
-
-#[cfg(test)]
-mod tests;

@@ -1,7 +1,7 @@
 //! Where owners are kept, where a memory's log is, and where a process runs.
 
 ghost use Rattle.std.specs.Prelude.{◌≡◌, ◌<◌, ◌≤◌};
-ghost use Rattle.lego_msg.specs.Places.{home_of, secondary_of};
+ghost use Rattle.lego_msg.specs.Places.{guarded_by, home_of, secondary_of};
 ghost use Rattle.placement.specs.Processors.{processor_with};
 
 use lego_base::{CpuId, MemId, Pid};
@@ -21,6 +21,15 @@ pub fn secondary(memory: MemId, memories: u32) -> MemId
 {
     let next = memory.0 as u64 + 1;
     MemId((next % memories as u64) as u32)
+}
+
+/// The memory whose log and spare a memory keeps, where there are `memories` memory components.
+pub fn guarded(memory: MemId, memories: u32) -> MemId
+    requires { 0 < memories }
+    ensures { result ≡ record { 0 = guarded_by memories memory.0 } }
+{
+    let before = memory.0 as u64 + memories as u64 - 1;
+    MemId((before % memories as u64) as u32)
 }
 
 /// The processor component that runs a process, where there are `processors` of them.

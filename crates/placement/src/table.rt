@@ -4,7 +4,8 @@ ghost use Rattle.std.specs.Prelude.{◌≡◌, ◌<◌, length, IfOk, OnOk, OnEr
 ghost use Rattle.lego_msg.specs.Maps.{owner_of, owned_by as entries_of};
 ghost use Rattle.placement.specs.Owners.{assigned, dropped, in_turn as turn_of, inherited, next_owner, no_owners, spaces_in};
 
-use crate::entries::{entry_of, inherited_in, put, spaces_of};
+use crate::entries::{inherited_in, spaces_of};
+use keyed_list::{get, put, remove_process};
 use lego_base::{HomeEntry, MemId, NoMemory, Pid, RegionNo, Spaces};
 use std::alloc::Global;
 use std::marker::Model;
@@ -87,7 +88,7 @@ impl Table {
     pub fn owner(&self, pid: Pid, region: RegionNo) -> Option<MemId>
         ensures { result ≡ owner_of self.now.owners pid.0 region.0 }
     {
-        entry_of(self.owners.as_slice(), pid, region).map(|entry| entry.owner)
+        get(self.owners.as_slice(), pid, region.0).map(|entry| entry.owner)
     }
 
     /// The regions that a memory owns, in rising order of process and region.
@@ -101,7 +102,7 @@ impl Table {
     pub fn drop_process(&mut self, pid: Pid)
         ensures { self.new ≡ dropped pid self.old }
     {
-        self.owners.retain(|entry| entry.pid.0 != pid.0);
+        remove_process(&mut self.owners, pid);
     }
 }
 

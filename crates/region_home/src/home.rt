@@ -9,7 +9,7 @@ use lego_base::{HomeEntry, MemId, NoMemory, Pid, RegionNo, Seq};
 use std::alloc::Global;
 use std::marker::Model;
 
-/// The owner of each region of the processes whose home this is (LegoOS, section 4.3).
+/// The owner of each region of the processes whose home this is (LegoOS, OSDI 2018, on memory space management).
 #[derive(Debug, Drop)]
 pub struct Home {
     entries: Vec<HomeEntry>,

@@ -5,7 +5,5 @@
 #![tactic(auto)]
 
 mod home;
-#[cfg(test)]
-mod tests;
 
 pub use home::Home;

@@ -1,5 +1,4 @@
 pub mod Lookup
-pub mod Rising
 pub mod Net
 pub mod Moving
 pub mod Around

@@ -1,4 +1,4 @@
-use Rattle.rest_laws.proofs.Rising.{put-rises}
+use Rattle.rest_laws.proofs.Lookup.{put-rises}
 use Rattle.rest_laws.proofs.laws.lists_rise_with_one_more.Goals as goal
 
 pub returns : goal.returns

@@ -1,4 +1,4 @@
-use Rattle.rest_laws.proofs.Rising.{without-rises}
+use Rattle.rest_laws.proofs.Lookup.{without-rises}
 use Rattle.rest_laws.proofs.laws.lists_rise_without_some.Goals as goal
 
 pub returns : goal.returns

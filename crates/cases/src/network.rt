@@ -1,8 +1,8 @@
 //! The network on its happy path.
 
-use crate::Net;
 use lego_base::{MemId, OpNo};
 use lego_msg::{Body, Message, Place};
+use net_fabric::Net;
 use std::test::Fail;
 
 fn drain_of(to: Place, number: u64) -> Message {

@@ -1,8 +1,8 @@
 //! An operation of two targets.
 
-use crate::Op;
 use lego_base::{MemId, OpNo};
 use lego_msg::Place;
+use op_track::Op;
 use std::test::Fail;
 
 #[test]

@@ -1,7 +1,7 @@
 //! Owners of two processes.
 
-use crate::{Table, home, processor_of, secondary};
 use lego_base::{MemId, Pid, RegionNo};
+use placement::{Table, home, processor_of, secondary};
 use std::test::Fail;
 
 #[test]

@@ -1,6 +1,6 @@
 //! Files in a store of few blocks.
 
-use crate::{FileFault, Files};
+use file_table::{FileFault, Files};
 use lego_base::FileNo;
 use std::alloc::Global;
 use std::test::Fail;

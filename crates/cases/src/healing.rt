@@ -1,6 +1,6 @@
 //! A healing of a memory with no region.
 
-use crate::{Heal, HealMove};
+use heal_steps::{Heal, HealMove};
 use lego_base::{MemId, Seq};
 use lego_msg::Body;
 use std::test::Fail;

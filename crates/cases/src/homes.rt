@@ -1,6 +1,6 @@
 //! A home of two processes.
-use crate::Home;
 use lego_base::{HomeEntry, MemId, Pid, RegionNo};
+use region_home::Home;
 use std::test::Fail;
 
 #[test]

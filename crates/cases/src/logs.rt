@@ -1,6 +1,6 @@
 //! A log at its edges.
-use crate::{Log, LogFull};
 use lego_base::{Bytes, Patch, Pid, Vpn};
+use mem_log::{Log, LogFull};
 use std::alloc::Global;
 use std::test::Fail;
 
