@@ -1,2 +1,5 @@
 pub mod CacheRule
+pub mod Sets
+pub mod Lists
+pub mod Tags
 pub mod Laws
