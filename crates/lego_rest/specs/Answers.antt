@@ -1,6 +1,6 @@
 -- Who has answered the open operation: the answer was noted, or it is pending.
 use Rattle.std.specs.List.{list_any}
-use Rattle.std.specs.Prelude.{◌==◌, ◌&&◌, ◌||◌, if◌then◌else◌, [], ◌∷◌, ◌++◌, ℕ, Bool, List, None, Option, Some, false, not}
+use Rattle.std.specs.Prelude.{◌==◌, ◌&&◌, ◌||◌, if◌then◌else◌, ◌++◌, ℕ, Bool, List, None, Option, Some, false, not}
 use Rattle.lego_base.specs.declared.records.Patch.{Patch}
 use Rattle.lego_msg.specs.Deliveries.{stops}
 use Rattle.lego_msg.specs.Operations.{is_write, patch_of}

@@ -1,6 +1,6 @@
 -- What components, the plain map and the machine are by themselves, at every moment.
 use Rattle.std.specs.List.{AllByRecursion, filter, list_any}
-use Rattle.std.specs.Prelude.{◌≡◌, ◌⊎◌, ◌/◌, ◌<◌, ◌≤◌, ◌==◌, ◌&&◌, ◌||◌, if◌then◌else◌, [], ◌∷◌, ◌++◌, ℕ, Bool, List, None, Option, Some, false, length, take, true}
+use Rattle.std.specs.Prelude.{◌≡◌, ◌⊎◌, ◌/◌, ◌<◌, ◌≤◌, ◌==◌, ◌&&◌, ◌||◌, [], ◌∷◌, ◌++◌, ℕ, Bool, List, None, Option, Some, false, length, take, true}
 use Rattle.lego_base.specs.Files.{file_bytes, is_file}
 use Rattle.lego_base.specs.Keys.{Rises}
 use Rattle.lego_base.specs.declared.ids.MemId.{MemId}

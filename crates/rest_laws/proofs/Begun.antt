@@ -1,20 +1,18 @@
 -- An operation begins with its first message.
-use Rattle.std.proofs.Common.{◌≡◌, ◌⊎◌, ◌+◌, ◌/◌, ◌<◌, ◌==◌, ◌&&◌, ◌||◌, [], ◌∷◌, ◌++◌, ◌∙◌, ℕ, Bool, List, None, Option, Some, ap, append-nil, arith, cond, false, inl, inr, length, not, refl, slice_get, subst, sym, true}
+use Rattle.std.proofs.Common.{◌≡◌, ◌⊎◌, ◌+◌, ◌/◌, ◌<◌, ◌==◌, ◌&&◌, ◌||◌, [], ◌∷◌, ◌++◌, ◌∙◌, ℕ, Bool, List, None, Option, Some, ap, append-nil, arith, cond, false, inl, inr, not, refl, slice_get, subst, sym, true}
 use Rattle.std.proofs.lemmas.Bool.{eq-eqb, eqb-true, ne_eqb}
 use Rattle.std.proofs.lemmas.List.Folds.{list_any-append}
 use Rattle.std.specs.List.{AllByRecursion, list_any}
 use Rattle.lego_base.specs.declared.ids.MemId.{MemId}
 use Rattle.lego_base.specs.declared.ids.OpNo.{OpNo}
 use Rattle.lego_base.specs.declared.records.HomeEntry.{HomeEntry}
-use Rattle.lego_base.specs.declared.records.PageImage.{PageImage}
 use Rattle.lego_base.specs.declared.records.Patch.{Patch}
 use Rattle.lego_msg.specs.Granted.{Granted}
 use Rattle.lego_base.specs.Pieces.{laid_over}
 use Rattle.lego_msg.specs.Maps.{bytes_or_zeros, laid_on, overlaid, owner_of, page_in}
 use Rattle.lego_msg.specs.Marks.{Mark}
 use Rattle.lego_msg.specs.Operations.{asks_of, is_write, messages_of, patch_of}
-use Rattle.lego_msg.specs.Places.{is_issuer, memory, same_place, secondary_of}
-use Rattle.lego_msg.specs.Plain.{Plain}
+use Rattle.lego_msg.specs.Places.{memory, same_place, secondary_of}
 use Rattle.lego_msg.specs.State.{Block, Mem, Waiter}
 use Rattle.lego_msg.specs.Track.{Caches, Track, all_answered, is_complete, is_crash_due, is_pending, memory_count, opened}
 use Rattle.lego_msg.specs.declared.healing.Healing.{Healing}
@@ -22,11 +20,11 @@ use Rattle.lego_msg.specs.declared.message.Message.{Message}
 use Rattle.lego_msg.specs.declared.operation.Open.{Open}
 use Rattle.lego_msg.specs.declared.operation.Operation.{Operation}
 use Rattle.lego_msg.specs.declared.place.Place.{Place}
-use Rattle.lego_rest.specs.Answers.{all_pending, answers_to, gave_answer, images_due, is_answer_from, is_storage_true, second_due}
-use Rattle.lego_rest.specs.Fits.{BlockFits, IsRequest, LogFits, OpenFits, PlainFits, WaiterFits, background, changes_block, over}
+use Rattle.lego_rest.specs.Answers.{all_pending, answers_to, gave_answer, is_answer_from, is_storage_true, second_due}
+use Rattle.lego_rest.specs.Fits.{IsRequest, LogFits, OpenFits, PlainFits, WaiterFits, background, changes_block, over}
 use Rattle.lego_rest.specs.Parts.{Areas, Cell, Held, Home, Page, is_owner, main_part, new_share, old_share, owns, second_part, share, sides_of}
 use Rattle.lego_rest.specs.Pending.{Among, First, IsPlace, Left, MayPend, OfBackground, OfMove, OfOperation, Pends}
-use Rattle.lego_rest.specs.Rest.{CurrentFits, DiskHolds, IsReady, MemHolds, Middle, SecondHolds}
+use Rattle.lego_rest.specs.Rest.{DiskHolds, MemHolds, Middle, SecondHolds}
 use Rattle.rest_laws.proofs.Lookup.{page-overlaid}
 use Rattle.rest_laws.proofs.Opened.{all_both, every, first_from, issuer_apart, issuer_there}
 use Rattle.rest_laws.proofs.Stepping.{batch_stays}

@@ -1,5 +1,5 @@
 -- An operation is complete.
-use Rattle.std.proofs.Common.{◌≡◌, ◌⊎◌, ◌+◌, ◌%◌, ◌/◌, ◌<◌, ◌≤◌, ◌==◌, ◌&&◌, ◌||◌, [], ◌∷◌, ◌++◌, ◌∙◌, ℕ, Bool, List, None, Option, Some, ap, append-nil, arith, cond, false, inl, inr, length, not, refl, slice_get, subst, suc, sym, true, zero}
+use Rattle.std.proofs.Common.{◌≡◌, ◌⊎◌, ◌+◌, ◌/◌, ◌<◌, ◌==◌, ◌&&◌, ◌||◌, [], ◌∷◌, ◌∙◌, ℕ, Bool, List, None, Option, Some, ap, append-nil, arith, cond, false, inl, inr, length, not, refl, slice_get, subst, suc, sym, true, zero}
 use Rattle.std.proofs.Math.Nat.{mod-lt}
 use Rattle.std.proofs.lemmas.Bool.{eq-eqb, eqb-true}
 use Rattle.std.specs.List.{AllByRecursion, list_any}
@@ -8,13 +8,13 @@ use Rattle.lego_base.specs.declared.records.HomeEntry.{HomeEntry}
 use Rattle.lego_base.specs.declared.records.Patch.{Patch}
 use Rattle.lego_base.specs.Pieces.{laid_over}
 use Rattle.lego_msg.specs.Completions.{finished, owners_after}
-use Rattle.lego_msg.specs.Granted.{IsClear, asks_clear}
-use Rattle.lego_msg.specs.Maps.{bytes_or_zeros, laid_on, overlaid, owner_of, page_in}
+use Rattle.lego_msg.specs.Granted.{IsClear}
+use Rattle.lego_msg.specs.Maps.{overlaid, owner_of, page_in}
 use Rattle.lego_msg.specs.Operations.{is_write, targets_of}
 use Rattle.lego_msg.specs.Places.{is_among, memory, same_place, secondary_of}
 use Rattle.lego_msg.specs.Plain.{Plain, effect}
 use Rattle.lego_msg.specs.State.{Mem, Waiter}
-use Rattle.lego_msg.specs.Track.{Track, all_answered, has_answered, healing_move, is_complete, is_pending, memory_count}
+use Rattle.lego_msg.specs.Track.{Track, all_answered, has_answered, is_complete, is_pending, memory_count}
 use Rattle.lego_msg.specs.declared.healing.Healing.{Healing}
 use Rattle.lego_msg.specs.declared.message.Message.{Message}
 use Rattle.lego_msg.specs.declared.operation.Answer.{Answer}
@@ -23,8 +23,7 @@ use Rattle.lego_msg.specs.declared.place.Place.{Place}
 use Rattle.lego_msg.specs.declared.place.Place.TheVariants.{Manager, Memory, Processor, Storage}
 use Rattle.lego_rest.specs.Answers.{all_pending, asks_storage_by, gave_answer, images_due, is_answer_from, is_storage_asked, is_storage_true, second_due}
 use Rattle.lego_rest.specs.Fits.{LogFits, WaiterFits, over}
-use Rattle.lego_rest.specs.Heals.{HealFits}
-use Rattle.lego_rest.specs.Parts.{Areas, Cell, Held, Home, Page, is_owner, main_part, new_share, old_share, owns, second_part, share, sides_of}
+use Rattle.lego_rest.specs.Parts.{Areas, Cell, Home, Page, is_owner, main_part, owns, second_part, share}
 use Rattle.lego_rest.specs.Pending.{Left, MayPend, OfBackground, OfMove, OfOperation, Pends}
 use Rattle.lego_rest.specs.Rest.{CurrentFits, IsReady, MemHolds, Middle, SecondHolds}
 use Rattle.rest_laws.proofs.Lookup.{page-overlaid}

@@ -11,3 +11,5 @@ pub mod Noted
 pub mod Reacted
 pub mod Begun
 pub mod Ended
+pub mod Lost
+pub mod Crashed

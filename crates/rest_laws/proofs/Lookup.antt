@@ -1,7 +1,7 @@
 -- What is found in a list after it changed, of which no law asks that the list is in order; and that it stays in order.
-use Rattle.std.proofs.Common.{◌≡◌, ◌&&◌, [], ◌∷◌, ◌∙◌, ℕ, Bool, List, None, Option, Some, ap, cond, eqb, false, not, refl, sym, true}
+use Rattle.std.proofs.Common.{◌≡◌, ◌&&◌, [], ◌∷◌, ◌∙◌, ℕ, Bool, List, None, Option, Some, ap, cond, eqb, false, refl, sym, true}
 use Rattle.std.proofs.lemmas.Bool.{eq-eqb, eqb-true}
-use Rattle.lego_base.specs.Keys.{Key, find, is_at, is_below, key_at, put, same_key, without}
+use Rattle.lego_base.specs.Keys.{find, is_at, key_at}
 use Rattle.lego_base.specs.Pieces.{laid_over}
 use Rattle.lego_base.specs.declared.records.PageImage.{PageImage}
 use Rattle.lego_base.specs.declared.records.Patch.{Patch}

@@ -1,13 +1,12 @@
 -- An issuer gets an answer to its open operation.
-use Rattle.std.proofs.Common.{◌≡◌, ◌⊎◌, ◌+◌, ◌<◌, ◌==◌, ◌&&◌, ◌||◌, [], ◌∷◌, ◌++◌, ◌∙◌, ℕ, Bool, List, None, Option, Some, ap, cond, false, inl, inr, not, refl, slice_get, subst, sym, true}
+use Rattle.std.proofs.Common.{◌≡◌, ◌+◌, ◌<◌, ◌==◌, ◌&&◌, ◌||◌, [], ◌∷◌, ◌∙◌, ℕ, Bool, List, None, Option, Some, ap, cond, false, inl, inr, not, refl, subst, sym, true}
 use Rattle.std.proofs.lemmas.Bool.{eq-eqb, eqb-false, ne_eqb}
 use Rattle.std.proofs.lemmas.Bool.Decides.{eqb_tells}
 use Rattle.std.specs.List.{AllByRecursion, list_any}
-use Rattle.lego_msg.specs.Deliveries.{MayDeliver, answered, is_waiting, reaction_of, stops, taken}
+use Rattle.lego_msg.specs.Deliveries.{MayDeliver, answered, reaction_of, stops, taken}
 use Rattle.lego_msg.specs.Operations.{asks_of, has_patch, is_write, messages_of, patch_of}
 use Rattle.lego_msg.specs.Places.{is_among, is_issuer, memory, same_place}
 use Rattle.lego_msg.specs.Plain.{Plain}
-use Rattle.lego_msg.specs.State.{Mem}
 use Rattle.lego_msg.specs.Track.{Track, has_answered, healing_move, is_calm, is_crash_due, is_done, memory_count, taken_out}
 use Rattle.lego_msg.specs.declared.body.Body.{Body}
 use Rattle.lego_msg.specs.declared.healing.Healing.{Healing}
@@ -20,13 +19,13 @@ use Rattle.lego_base.specs.declared.records.Patch.{Patch}
 use Rattle.lego_msg.specs.declared.place.Place.{Place}
 use Rattle.lego_msg.specs.declared.place.Place.TheVariants.{Manager, Memory, Processor, Storage}
 use Rattle.lego_rest.specs.Answers.{all_pending, answers_to, gave_answer, heals_target, images_due, is_answer_from, is_storage_asked, is_storage_true}
-use Rattle.lego_rest.specs.Fits.{AnswerFits, IsRequest, OpenFits, WaiterFits}
+use Rattle.lego_rest.specs.Fits.{IsRequest, OpenFits}
 use Rattle.lego_rest.specs.Heals.{HealFits, scene_of}
 use Rattle.lego_rest.specs.Pending.{Among, AnAnswer, First, HandedOn, HandsOn, IsNot, Left, MayPend, OfBackground, OfMove, OfOpen, OfOperation, Pends, Reaction, Reacts, Says}
 use Rattle.lego_rest.specs.Rest.{CurrentFits, Middle}
 use Rattle.rest_laws.proofs.Net.{any-taken}
 use Rattle.rest_laws.proofs.Opened.{all_among, answers_as_before, every, pends_as_before, waits_as_before}
-use Rattle.rest_laws.proofs.Sends.{and_true, back_false, both_true, not_true}
+use Rattle.rest_laws.proofs.Sends.{and_true, back_false, both_true}
 use Rattle.rest_laws.proofs.Stepping.{shift-keeps}
 use Rattle.rest_laws.proofs.Taken.{all_sent, all_taken, batches_same, between_goes, changes_less, done_same, no_batch_to_issuer, not_of_move, split, storage_same, whole}
 use Rattle.rest_laws.specs.Delivering.{AnswerIsNoted}

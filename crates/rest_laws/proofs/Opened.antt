@@ -1,5 +1,5 @@
 -- The open operation with other messages unsent or other answers: what is pending or waits fits it as before.
-use Rattle.std.proofs.Common.{◌≡◌, ◌⊎◌, ◌==◌, [], ◌∷◌, ◌++◌, ◌∙◌, ℕ, Bool, List, None, Option, Some, ap, false, inl, inr, refl, subst, sym, true}
+use Rattle.std.proofs.Common.{◌≡◌, [], ◌∷◌, ◌++◌, ℕ, List, Option, Some, ap, false, inl, inr, refl, subst, sym, true}
 use Rattle.std.specs.List.{AllByRecursion}
 use Rattle.lego_base.specs.declared.ids.OpNo.{OpNo}
 use Rattle.lego_msg.specs.Operations.{Ask, messages_of}
@@ -12,7 +12,7 @@ use Rattle.lego_msg.specs.declared.operation.Open.{Open}
 use Rattle.lego_msg.specs.declared.place.Place.{Place}
 use Rattle.lego_msg.specs.declared.place.Place.TheVariants.{Manager, Memory, Processor, Storage}
 use Rattle.lego_rest.specs.Fits.{AnswerFits, WaiterFits}
-use Rattle.lego_rest.specs.Pending.{Among, AnAnswer, First, HandedOn, IsOld, IsPlace, Left, MayPend, OfBackground, OfMove, OfOpen, OfOperation, Pends, Reaction}
+use Rattle.lego_rest.specs.Pending.{Among, AnAnswer, First, HandedOn, IsPlace, Left, MayPend, OfBackground, OfMove, OfOpen, OfOperation, Pends, Reaction}
 
 -- LISTS of which all fit
 
@@ -27,7 +27,7 @@ all_both P (x ∷ xs) ys first second = (first.0, all_both P xs ys first.1 secon
 -- AN OPERATION with other messages unsent and other answers
 
 module _ (o : Open) (unsent : List Message) (answers : List Answer) where
-  of_open : (n : ℕ) (f : Plain) (m : Message) → OfOpen n f m o → OfOpen n f m (record o { unsent = unsent; answers = answers })
+  pub of_open : (n : ℕ) (f : Plain) (m : Message) → OfOpen n f m o → OfOpen n f m (record o { unsent = unsent; answers = answers })
   of_open n f m (First among) = First among
   of_open n f m (Reaction from what) = Reaction from what
   of_open n f m (HandedOn how) = HandedOn how

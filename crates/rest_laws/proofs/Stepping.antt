@@ -1,28 +1,28 @@
 -- Steps that change no component, a memory, or storage keep the relation.
-use Rattle.std.proofs.Common.{◌≡◌, ◌⊎◌, ◌<◌, [], ◌∷◌, ◌∙◌, ℕ, Bool, List, None, Option, Some, ap, cond, eqb, false, inl, inr, length, refl, slice_get, subst, suc, sym, take, true, zero}
+use Rattle.std.proofs.Common.{◌≡◌, ◌⊎◌, ◌<◌, [], ◌∷◌, ◌∙◌, ℕ, Bool, List, Option, Some, ap, eqb, false, inl, inr, length, refl, slice_get, subst, suc, sym, take, true, zero}
 use Rattle.std.proofs.lemmas.Bool.{eqb-true}
 use Rattle.std.proofs.lemmas.Bool.Decides.{eqb_tells}
-use Rattle.std.specs.List.{AllByRecursion, list_any}
+use Rattle.std.specs.List.{AllByRecursion}
 use Rattle.std.specs.Prelude.{slice_set}
 use Rattle.lego_base.specs.declared.records.PageImage.{PageImage}
 use Rattle.lego_msg.proofs.Senders.{get_set, get_set_other, same_some}
 use Rattle.lego_msg.specs.Places.{memory, same_place, secondary_of}
 use Rattle.lego_msg.specs.Plain.{Plain}
-use Rattle.lego_msg.specs.State.{Block, Disk, Mem}
+use Rattle.lego_msg.specs.State.{Disk, Mem}
 use Rattle.lego_msg.specs.Track.{Track, memory_count}
 use Rattle.lego_msg.specs.declared.message.Message.{Message}
 use Rattle.lego_rest.specs.Answers.{all_pending, gave_answer, main_due, second_due}
-use Rattle.lego_rest.specs.Fits.{BatchFits, BlockFits, HasBatch, MemFits, background, batch_message, changes_block, receipt}
+use Rattle.lego_rest.specs.Fits.{BatchFits, BlockFits, HasBatch, MemFits, background, batch_message, receipt}
 use Rattle.lego_rest.specs.Parts.{Areas, Cell, Held, Holds, Home, Page, main_part, new_share, old_share, second_part, share, sides_of}
 use Rattle.lego_rest.specs.Pending.{IsUp}
 use Rattle.lego_rest.specs.Rest.{DiskHolds, MemHolds, Middle, SecondHolds}
 use Rattle.rest_laws.proofs.Moving.{holds-move}
 use Rattle.rest_laws.proofs.Opened.{every}
 use Rattle.rest_laws.specs.Moves.{Moves}
-use Rattle.rest_laws.specs.Steps.{Goes, Holding, Moment, NoNewAnswer, NoNewChange, NoNewImages, Row, RowKeeps, Shift, ShiftKeeps, Storing, StoringKeeps, pending_in, stepped}
+use Rattle.rest_laws.specs.Steps.{Goes, Moment, NoNewAnswer, NoNewChange, NoNewImages, Row, RowKeeps, ShiftKeeps, Storing, StoringKeeps, pending_in, stepped}
 use Rattle.lego_msg.specs.declared.place.Place.TheVariants as place
 
-set_length : {X : Type 0} (xs : List X) (i : ℕ) (x : X) → length (slice_set xs i x) ≡ length xs
+pub set_length : {X : Type 0} (xs : List X) (i : ℕ) (x : X) → length (slice_set xs i x) ≡ length xs
 set_length [] i x = refl
 set_length (y ∷ ys) zero x = refl
 set_length (y ∷ ys) (suc i) x = ap suc (set_length ys i x)
@@ -48,7 +48,7 @@ module _ (lost : Option ℕ) (t : Track) (mems : List Mem) (disk : Disk) (y : Mo
   same_sides due part m holds = subst (λ (f : Plain). Holds due part (old_share (sides_of t) m) (λ (c : Cell). share (memory_count t.shape) t.owners f m c)) (sym goes.plain) holds
 
   -- the cells that a memory keeps for its own sake
-  own : (m : ℕ) (s s' : Mem) → Moves (main_part s) (main_part s') (new_share (sides_of t) m) → (gave_answer (memory m) (pending_in y) y.current ≡ true → (gave_answer (memory m) (all_pending t) t.current ≡ true) ⊎ ((c : Cell) → main_part s' c ≡ new_share (sides_of t) m c)) → Holds (main_due t m) (main_part s) (old_share (sides_of t) m) (new_share (sides_of t) m) → Holds (main_due (stepped t mems disk y) m) (main_part s') (old_share (sides_of (stepped t mems disk y)) m) (new_share (sides_of (stepped t mems disk y)) m)
+  pub own : (m : ℕ) (s s' : Mem) → Moves (main_part s) (main_part s') (new_share (sides_of t) m) → (gave_answer (memory m) (pending_in y) y.current ≡ true → (gave_answer (memory m) (all_pending t) t.current ≡ true) ⊎ ((c : Cell) → main_part s' c ≡ new_share (sides_of t) m c)) → Holds (main_due t m) (main_part s) (old_share (sides_of t) m) (new_share (sides_of t) m) → Holds (main_due (stepped t mems disk y) m) (main_part s') (old_share (sides_of (stepped t mems disk y)) m) (new_share (sides_of (stepped t mems disk y)) m)
   own m s s' moves told holds = same_sides (main_due (stepped t mems disk y) m) (main_part s') m (holds-move (main_due t m) (main_due (stepped t mems disk y) m) (main_part s) (main_part s') (old_share (sides_of t) m) (new_share (sides_of t) m) moves later holds)
     where
       later : (c : Cell) → main_due (stepped t mems disk y) m c ≡ true → (main_due t m c ≡ true) ⊎ (main_part s' c ≡ new_share (sides_of t) m c)
@@ -59,7 +59,7 @@ module _ (lost : Option ℕ) (t : Track) (mems : List Mem) (disk : Disk) (y : Mo
           by (inr new) = inr (new c)
 
   -- and those that a secondary k has of j
-  seconded : (j k : ℕ) (part part' : (c : Cell) → Held c) → Moves part part' (new_share (sides_of t) j) → ((c : Cell) → second_due (stepped t mems disk y) k c ≡ true → (second_due t k c ≡ true) ⊎ (part' c ≡ new_share (sides_of t) j c)) → Holds (second_due t k) part (old_share (sides_of t) j) (new_share (sides_of t) j) → Holds (second_due (stepped t mems disk y) k) part' (old_share (sides_of (stepped t mems disk y)) j) (new_share (sides_of (stepped t mems disk y)) j)
+  pub seconded : (j k : ℕ) (part part' : (c : Cell) → Held c) → Moves part part' (new_share (sides_of t) j) → ((c : Cell) → second_due (stepped t mems disk y) k c ≡ true → (second_due t k c ≡ true) ⊎ (part' c ≡ new_share (sides_of t) j c)) → Holds (second_due t k) part (old_share (sides_of t) j) (new_share (sides_of t) j) → Holds (second_due (stepped t mems disk y) k) part' (old_share (sides_of (stepped t mems disk y)) j) (new_share (sides_of (stepped t mems disk y)) j)
   seconded j k part part' moves later holds = same_sides (second_due (stepped t mems disk y) k) part' j (holds-move (second_due t k) (second_due (stepped t mems disk y) k) part part' (old_share (sides_of t) j) (new_share (sides_of t) j) moves later holds)
 
   -- a secondary that answered nothing new is due what it was due before
@@ -72,7 +72,7 @@ module _ (lost : Option ℕ) (t : Track) (mems : List Mem) (disk : Disk) (y : Mo
   blocks_stay n m s changes fits = every (λ b fit. record { place = fit.place; below = fit.below; same = fit.same; still = changes b fit.still }) s.blocks fits
 
 -- storage, where a step doesn't change it
-disk_stays : (lost : Option ℕ) (t : Track) (mems : List Mem) (y : Moment) → Goes lost t mems t.disk y → NoNewAnswer t y place.Storage → DiskHolds t → DiskHolds (stepped t mems t.disk y)
+pub disk_stays : (lost : Option ℕ) (t : Track) (mems : List Mem) (y : Moment) → Goes lost t mems t.disk y → NoNewAnswer t y place.Storage → DiskHolds t → DiskHolds (stepped t mems t.disk y)
 disk_stays lost t mems y goes answered holds = record {
   files = by holds.files;
   told = λ is. holds.told (answered is) ∙ same;
@@ -88,7 +88,7 @@ disk_stays lost t mems y goes answered holds = record {
     by (inr e) = inr (e ∙ same)
 
 -- a memory, where a step doesn't change it
-mem_stays : (lost : Option ℕ) (t : Track) (mems : List Mem) (y : Moment) → Goes lost t mems t.disk y → (m : ℕ) (s : Mem) → NoNewAnswer t y (memory m) → background s.id (pending_in y) ≡ background s.id (all_pending t) → NoNewChange t y → MemHolds t m s → MemHolds (stepped t mems t.disk y) m s
+pub mem_stays : (lost : Option ℕ) (t : Track) (mems : List Mem) (y : Moment) → Goes lost t mems t.disk y → (m : ℕ) (s : Mem) → NoNewAnswer t y (memory m) → background s.id (pending_in y) ≡ background s.id (all_pending t) → NoNewChange t y → MemHolds t m s → MemHolds (stepped t mems t.disk y) m s
 mem_stays lost t mems y goes m s answered batch changes holds = record {
   part = own lost t mems t.disk y goes m s s (λ c. inl refl) (λ is. inl (answered is)) holds.part;
   batch = batch_stays (all_pending t) (pending_in y) t.disk.images s batch holds.batch;

@@ -1,5 +1,5 @@
 -- What stays of the pending messages once an issuer gets one.
-use Rattle.std.proofs.Common.{◌≡◌, ◌⊎◌, ◌+◌, ◌<◌, ◌==◌, ◌&&◌, ◌||◌, [], ◌∷◌, ◌++◌, ◌∙◌, ℕ, Bool, List, None, Option, Some, ap, append-nil, arith, cond, false, inl, inr, length, not, refl, slice_get, subst, sym, true}
+use Rattle.std.proofs.Common.{◌≡◌, ◌+◌, ◌<◌, ◌==◌, ◌&&◌, ◌||◌, [], ◌∷◌, ◌++◌, ◌∙◌, ℕ, Bool, List, None, Option, Some, ap, append-nil, arith, cond, false, inl, inr, length, not, refl, subst, sym, true}
 use Rattle.std.proofs.lemmas.Bool.{eqb-false}
 use Rattle.std.proofs.lemmas.Bool.Decides.{eqb_tells}
 use Rattle.std.proofs.lemmas.List.Elements.{filter-append}
@@ -9,7 +9,7 @@ use Rattle.lego_msg.specs.Deliveries.{MayDeliver, is_waiting, taken}
 use Rattle.lego_msg.specs.Places.{is_issuer, memory, same_place}
 use Rattle.lego_msg.specs.Plain.{Plain}
 use Rattle.lego_msg.specs.State.{Block, Mem}
-use Rattle.lego_msg.specs.Track.{Track, all_answered, has_answered, healing_move, is_complete, is_done, is_pending, memory_count, taken_out}
+use Rattle.lego_msg.specs.Track.{Track, all_answered, has_answered, is_done, taken_out}
 use Rattle.lego_msg.specs.declared.body.Body.{Body}
 use Rattle.lego_msg.specs.declared.healing.Healing.{Healing}
 use Rattle.lego_msg.specs.declared.healing.Move.{Move}
@@ -17,14 +17,14 @@ use Rattle.lego_msg.specs.declared.message.Message.{Message}
 use Rattle.lego_msg.specs.declared.operation.Open.{Open}
 use Rattle.lego_msg.specs.declared.place.Place.{Place}
 use Rattle.lego_msg.specs.declared.place.Place.TheVariants.{Manager, Memory, Processor, Storage}
-use Rattle.lego_rest.specs.Answers.{all_pending, asks_storage_by, gave_answer, heals_target, images_due, is_answer_from, is_storage_asked, is_storage_true, is_writing}
+use Rattle.lego_rest.specs.Answers.{all_pending, asks_storage_by, gave_answer, heals_target, is_answer_from, is_storage_true}
 use Rattle.lego_rest.specs.Fits.{background, changes_block, is_background}
-use Rattle.lego_rest.specs.Heals.{Between, HealFits, HealHolds, MoveFits, Scene, count_drains, count_number, is_asked_still, scene_of}
-use Rattle.lego_rest.specs.Pending.{Goes, IsBatch, IsNot, IsOf, IsOfMove, IsOld, Left, MayPend, OfBackground, OfMove, OfOperation, Pends, Returns}
-use Rattle.lego_rest.specs.Rest.{CurrentFits, IsReady, Middle}
+use Rattle.lego_rest.specs.Heals.{Between, Scene, count_drains, count_number, is_asked_still}
+use Rattle.lego_rest.specs.Pending.{Goes, IsBatch, IsNot, IsOf, IsOfMove, IsOld, Left, OfBackground, OfMove, OfOperation, Pends, Returns}
+use Rattle.lego_rest.specs.Rest.{IsReady}
 use Rattle.rest_laws.proofs.Net.{any-taken, background-taken, takes-one}
 use Rattle.rest_laws.proofs.Opened.{all_both}
-use Rattle.rest_laws.proofs.Sends.{and_true, back_false, both_true, not_true}
+use Rattle.rest_laws.proofs.Sends.{back_false}
 use Rattle.rest_laws.specs.Nets.{Split}
 use Rattle.lego_msg.specs.declared.place.Place.TheVariants as place
 

@@ -8,3 +8,4 @@ pub mod Sending
 pub mod Delivering
 pub mod Beginning
 pub mod Completing
+pub mod Crashing

@@ -8,6 +8,7 @@ ghost use Rattle.rest_laws.specs.Around.{SecondariesDiffer, GuardsItsOwn};
 ghost use Rattle.rest_laws.specs.Steps.{ShiftKeeps, RowKeeps, StoringKeeps};
 ghost use Rattle.rest_laws.specs.Beginning.{OperationBegins};
 ghost use Rattle.rest_laws.specs.Completing.{OperationEnds};
+ghost use Rattle.rest_laws.specs.Crashing.{CrashBegins};
 ghost use Rattle.rest_laws.specs.Delivering.{OldIsDropped, AnswerIsNoted, ReactionIsOwed};
 ghost use Rattle.rest_laws.specs.Sending.{OwedIsSent, FirstIsSent};
 
@@ -129,4 +130,9 @@ pub fn operations_begin_in_the_relation()
 /// The completion of an operation keeps the relation with nothing lost, where the law of its kind holds.
 pub fn operations_end_in_the_relation()
     ensures { OperationEnds }
+{}
+
+/// A crash leads to the relation with that memory lost, where nothing heals.
+pub fn crashes_begin_in_the_relation()
+    ensures { CrashBegins }
 {}

@@ -5,8 +5,8 @@
 //! delivered, `specs/Moves` how the cells that a component holds go from the old to the new, `specs/Order` what keeps a
 //! list in the order of its keys, `specs/Around` how memories guard each other in a circle. `specs/Steps` says what is
 //! owed of a step that changes what is pending, a memory, or storage, so that the relation is kept, whatever kind of
-//! operation is open and whether or not a memory is lost; `specs/Sending`, `specs/Beginning`, `specs/Delivering` and
-//! `specs/Completing` say it of events.
+//! operation is open and whether or not a memory is lost; `specs/Sending`, `specs/Beginning`, `specs/Delivering`,
+//! `specs/Completing` and `specs/Crashing` say it of events.
 #![tactic(auto)]
 
 mod laws;
@@ -14,10 +14,10 @@ mod laws;
 pub use laws::{
     a_delivery_takes_one_out, answers_are_noted_in_the_relation,
     answers_to_nobody_are_dropped_in_the_relation, areas_are_those_set,
-    batches_stay_until_they_are_delivered, entries_are_found_where_put,
-    entries_that_go_are_not_found, first_messages_are_sent_in_the_relation,
-    lists_rise_with_one_more, lists_rise_without_some, memories_guard_their_own,
-    no_two_memories_share_a_secondary, operations_begin_in_the_relation,
+    batches_stay_until_they_are_delivered, crashes_begin_in_the_relation,
+    entries_are_found_where_put, entries_that_go_are_not_found,
+    first_messages_are_sent_in_the_relation, lists_rise_with_one_more, lists_rise_without_some,
+    memories_guard_their_own, no_two_memories_share_a_secondary, operations_begin_in_the_relation,
     operations_end_in_the_relation, overlaid_pages_are_patched_in_order, patches_change_their_page,
     questions_of_the_others_stay, reactions_are_owed_in_the_relation,
     rows_of_memories_keep_the_relation, rows_of_storage_keep_the_relation,
