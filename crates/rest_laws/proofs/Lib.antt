@@ -13,3 +13,4 @@ pub mod Begun
 pub mod Ended
 pub mod Lost
 pub mod Crashed
+pub mod Unchanged

@@ -9,3 +9,4 @@ pub mod Delivering
 pub mod Beginning
 pub mod Completing
 pub mod Crashing
+pub mod KindsEnding

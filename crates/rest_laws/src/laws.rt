@@ -10,6 +10,7 @@ ghost use Rattle.rest_laws.specs.Beginning.{OperationBegins};
 ghost use Rattle.rest_laws.specs.Completing.{OperationEnds};
 ghost use Rattle.rest_laws.specs.Crashing.{CrashBegins};
 ghost use Rattle.rest_laws.specs.Delivering.{OldIsDropped, AnswerIsNoted, ReactionIsOwed};
+ghost use Rattle.rest_laws.specs.KindsEnding.{QuestionsEnd, FileChangesEnd};
 ghost use Rattle.rest_laws.specs.Sending.{OwedIsSent, FirstIsSent};
 
 /// An entry that is put is found under its key.
@@ -135,4 +136,14 @@ pub fn operations_end_in_the_relation()
 /// A crash leads to the relation with that memory lost, where nothing heals.
 pub fn crashes_begin_in_the_relation()
     ensures { CrashBegins }
+{}
+
+/// Operations that only ask, and drains, meet the law of their kind at their completion.
+pub fn questions_end()
+    ensures { QuestionsEnd }
+{}
+
+/// So do operations on files and names.
+pub fn file_changes_end()
+    ensures { FileChangesEnd }
 {}

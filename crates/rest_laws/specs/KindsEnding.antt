@@ -1,0 +1,36 @@
+-- The law of each kind of operation at its completion: questions and drains change nothing, and what changes files or names
+-- changes nothing that memories keep.
+use Rattle.std.specs.Prelude.{ℕ, List}
+use Rattle.lego_base.specs.declared.records.HomeEntry.{HomeEntry}
+use Rattle.lego_msg.specs.Plain.{Plain}
+use Rattle.lego_msg.specs.declared.operation.Operation.{Operation}
+use Rattle.lego_msg.specs.declared.operation.Operation.TheVariants.{AsksAreas, AsksSize, CutsFile, CutsName, Drains, Finds, FreesFile, GetsName, ListsNames, MakesName, Reads, ReadsFile, WritesFile}
+use Rattle.lego_rest.specs.Fits.{PlainFits}
+use Rattle.rest_laws.specs.Completing.{KindEnds}
+
+-- operations that only ask, or wait for a log to be drained
+abbrev pub OnlyAsks : Operation → Type 0
+OnlyAsks (Finds pid region) = Unit {0}
+OnlyAsks (Reads pid line owner) = Unit {0}
+OnlyAsks (AsksAreas pid region owner) = Unit {0}
+OnlyAsks (Drains m) = Unit {0}
+OnlyAsks (ReadsFile file block off len) = Unit {0}
+OnlyAsks (AsksSize file) = Unit {0}
+OnlyAsks (GetsName name) = Unit {0}
+OnlyAsks ListsNames = Unit {0}
+OnlyAsks other = ⊥
+
+-- operations on files and their names
+abbrev pub ChangesFiles : Operation → Type 0
+ChangesFiles (WritesFile file block off bytes) = Unit {0}
+ChangesFiles (CutsFile file size) = Unit {0}
+ChangesFiles (MakesName name) = Unit {0}
+ChangesFiles (CutsName name) = Unit {0}
+ChangesFiles (FreesFile file) = Unit {0}
+ChangesFiles other = ⊥
+
+abbrev pub QuestionsEnd : Type 0
+QuestionsEnd = (n : ℕ) (owners : List HomeEntry) (f : Plain) (o : Operation) → PlainFits n owners f → OnlyAsks o → KindEnds n owners f o
+
+abbrev pub FileChangesEnd : Type 0
+FileChangesEnd = (n : ℕ) (owners : List HomeEntry) (f : Plain) (o : Operation) → PlainFits n owners f → ChangesFiles o → KindEnds n owners f o
