@@ -14,3 +14,4 @@ pub mod Ended
 pub mod Lost
 pub mod Crashed
 pub mod Unchanged
+pub mod Changed

@@ -1,8 +1,6 @@
 -- Operations that only ask, and those on files: what memories keep is the same before and after.
-use Rattle.std.proofs.Common.{◌≡◌, ◌⊎◌, ℕ, List, inl, inr, refl, true}
+use Rattle.std.proofs.Common.{◌≡◌, ℕ, List, inl, inr, refl}
 use Rattle.lego_base.specs.declared.records.HomeEntry.{HomeEntry}
-use Rattle.lego_msg.specs.Operations.{targets_of}
-use Rattle.lego_msg.specs.Places.{is_among}
 use Rattle.lego_msg.specs.Plain.{Plain, effect, with_files}
 use Rattle.lego_msg.specs.Files.{Files}
 use Rattle.lego_msg.specs.declared.operation.Operation.{Operation}

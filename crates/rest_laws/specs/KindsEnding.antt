@@ -1,10 +1,11 @@
--- The law of each kind of operation at its completion: questions and drains change nothing, and what changes files or names
--- changes nothing that memories keep.
+-- The law of each kind of operation at its completion: questions and drains change nothing, what changes files or names
+-- changes nothing that memories keep, and what changes homes, areas or pages changes those of its targets alone.
 use Rattle.std.specs.Prelude.{ℕ, List}
 use Rattle.lego_base.specs.declared.records.HomeEntry.{HomeEntry}
+use Rattle.lego_msg.specs.Granted.{OpFits}
 use Rattle.lego_msg.specs.Plain.{Plain}
 use Rattle.lego_msg.specs.declared.operation.Operation.{Operation}
-use Rattle.lego_msg.specs.declared.operation.Operation.TheVariants.{AsksAreas, AsksSize, CutsFile, CutsName, Drains, Finds, FreesFile, GetsName, ListsNames, MakesName, Reads, ReadsFile, WritesFile}
+use Rattle.lego_msg.specs.declared.operation.Operation.TheVariants.{AsksAreas, AsksSize, CutsFile, CutsName, Drains, Finds, FreesFile, GetsName, ListsNames, MakesName, Reads, ReadsFile, SetsAreas, SetsHome, Unmaps, Writes, WritesFile}
 use Rattle.lego_rest.specs.Fits.{PlainFits}
 use Rattle.rest_laws.specs.Completing.{KindEnds}
 
@@ -34,3 +35,14 @@ QuestionsEnd = (n : ℕ) (owners : List HomeEntry) (f : Plain) (o : Operation) �
 
 abbrev pub FileChangesEnd : Type 0
 FileChangesEnd = (n : ℕ) (owners : List HomeEntry) (f : Plain) (o : Operation) → PlainFits n owners f → ChangesFiles o → KindEnds n owners f o
+
+-- operations on the home of a region, its areas, or pages of it
+abbrev pub ChangesRegion : Operation → Type 0
+ChangesRegion (SetsHome pid region owner) = Unit {0}
+ChangesRegion (SetsAreas pid region areas owner) = Unit {0}
+ChangesRegion (Writes origin patch owner) = Unit {0}
+ChangesRegion (Unmaps pid region first pages areas owner) = Unit {0}
+ChangesRegion other = ⊥
+
+abbrev pub RegionChangesEnd : Type 0
+RegionChangesEnd = (n : ℕ) (owners : List HomeEntry) (f : Plain) (o : Operation) → PlainFits n owners f → OpFits owners f o → ChangesRegion o → KindEnds n owners f o

@@ -6,7 +6,7 @@
 //! list in the order of its keys, `specs/Around` how memories guard each other in a circle. `specs/Steps` says what is
 //! owed of a step that changes what is pending, a memory, or storage, so that the relation is kept, whatever kind of
 //! operation is open and whether or not a memory is lost; `specs/Sending`, `specs/Beginning`, `specs/Delivering`,
-//! `specs/Completing` and `specs/Crashing` say it of events.
+//! `specs/Completing` and `specs/Crashing` say it of events, `specs/KindsEnding` what each kind owes at its completion.
 #![tactic(auto)]
 
 mod laws;
@@ -20,7 +20,7 @@ pub use laws::{
     memories_guard_their_own, no_two_memories_share_a_secondary, operations_begin_in_the_relation,
     operations_end_in_the_relation, overlaid_pages_are_patched_in_order, patches_change_their_page,
     questions_end, questions_of_the_others_stay, reactions_are_owed_in_the_relation,
-    rows_of_memories_keep_the_relation, rows_of_storage_keep_the_relation,
+    region_changes_end, rows_of_memories_keep_the_relation, rows_of_storage_keep_the_relation,
     steps_of_messages_keep_the_relation, what_is_owed_is_sent_in_the_relation,
     what_is_set_becomes_the_new, what_moves_holds_old_or_new,
 };
