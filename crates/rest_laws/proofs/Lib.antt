@@ -15,3 +15,4 @@ pub mod Lost
 pub mod Crashed
 pub mod Unchanged
 pub mod Changed
+pub mod Dropping

@@ -1,11 +1,12 @@
 -- The law of each kind of operation at its completion: questions and drains change nothing, what changes files or names
 -- changes nothing that memories keep, and what changes homes, areas or pages changes those of its targets alone.
-use Rattle.std.specs.Prelude.{ℕ, List}
+use Rattle.std.specs.Prelude.{◌<◌, ℕ, List}
+use Rattle.lego_base.specs.declared.ids.Pid.{Pid}
 use Rattle.lego_base.specs.declared.records.HomeEntry.{HomeEntry}
 use Rattle.lego_msg.specs.Granted.{OpFits}
 use Rattle.lego_msg.specs.Plain.{Plain}
 use Rattle.lego_msg.specs.declared.operation.Operation.{Operation}
-use Rattle.lego_msg.specs.declared.operation.Operation.TheVariants.{AsksAreas, AsksSize, CutsFile, CutsName, Drains, Finds, FreesFile, GetsName, ListsNames, MakesName, Reads, ReadsFile, SetsAreas, SetsHome, Unmaps, Writes, WritesFile}
+use Rattle.lego_msg.specs.declared.operation.Operation.TheVariants.{AsksAreas, AsksSize, CutsFile, CutsName, Drains, Drops, Finds, FreesFile, GetsName, ListsNames, MakesName, Reads, ReadsFile, SetsAreas, SetsHome, Unmaps, Writes, WritesFile}
 use Rattle.lego_rest.specs.Fits.{PlainFits}
 use Rattle.rest_laws.specs.Completing.{KindEnds}
 
@@ -46,3 +47,7 @@ ChangesRegion other = ⊥
 
 abbrev pub RegionChangesEnd : Type 0
 RegionChangesEnd = (n : ℕ) (owners : List HomeEntry) (f : Plain) (o : Operation) → PlainFits n owners f → OpFits owners f o → ChangesRegion o → KindEnds n owners f o
+
+-- a space that ends: each memory and storage is a target, and its owners end with it
+abbrev pub SpacesEnd : Type 0
+SpacesEnd = (n : ℕ) (owners : List HomeEntry) (f : Plain) (pid : Pid) → 0 < n → PlainFits n owners f → KindEnds n owners f (Drops pid)

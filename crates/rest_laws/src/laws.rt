@@ -10,7 +10,7 @@ ghost use Rattle.rest_laws.specs.Beginning.{OperationBegins};
 ghost use Rattle.rest_laws.specs.Completing.{OperationEnds};
 ghost use Rattle.rest_laws.specs.Crashing.{CrashBegins};
 ghost use Rattle.rest_laws.specs.Delivering.{OldIsDropped, AnswerIsNoted, ReactionIsOwed};
-ghost use Rattle.rest_laws.specs.KindsEnding.{QuestionsEnd, FileChangesEnd, RegionChangesEnd};
+ghost use Rattle.rest_laws.specs.KindsEnding.{QuestionsEnd, FileChangesEnd, RegionChangesEnd, SpacesEnd};
 ghost use Rattle.rest_laws.specs.Sending.{OwedIsSent, FirstIsSent};
 
 /// An entry that is put is found under its key.
@@ -151,4 +151,9 @@ pub fn file_changes_end()
 /// So do operations on the home of a region, on its areas and on its pages, where their caller owes nothing.
 pub fn region_changes_end()
     ensures { RegionChangesEnd }
+{}
+
+/// So does the drop of a space, whose owners end with it.
+pub fn spaces_end()
+    ensures { SpacesEnd }
 {}

@@ -21,6 +21,6 @@ pub use laws::{
     operations_end_in_the_relation, overlaid_pages_are_patched_in_order, patches_change_their_page,
     questions_end, questions_of_the_others_stay, reactions_are_owed_in_the_relation,
     region_changes_end, rows_of_memories_keep_the_relation, rows_of_storage_keep_the_relation,
-    steps_of_messages_keep_the_relation, what_is_owed_is_sent_in_the_relation,
+    spaces_end, steps_of_messages_keep_the_relation, what_is_owed_is_sent_in_the_relation,
     what_is_set_becomes_the_new, what_moves_holds_old_or_new,
 };
