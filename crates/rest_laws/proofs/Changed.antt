@@ -25,7 +25,7 @@ use Rattle.rest_laws.specs.KindsEnding.{RegionChangesEnd}
 
 -- WHO IS A TARGET of an operation at a memory h and its secondary
 
-both : (a b : Bool) → (a && b) ≡ true → (a ≡ true) × (b ≡ true)
+pub both : (a b : Bool) → (a && b) ≡ true → (a ≡ true) × (b ≡ true)
 both true b e = (refl, e)
 both false b e = cc e
 
@@ -34,24 +34,24 @@ or_right true b c e = refl
 or_right false b c e = ap (λ (x : Bool). x || c) e
 
 -- the memory itself, and its secondary, which come second and first among the targets
-at_main : (n j h : ℕ) (rest : Bool) → j ≡ h → (eqb j (secondary_of n h) || (eqb j h || rest)) ≡ true
+pub at_main : (n j h : ℕ) (rest : Bool) → j ≡ h → (eqb j (secondary_of n h) || (eqb j h || rest)) ≡ true
 at_main n j h rest same = by (eqb j (secondary_of n h)) (eqb j h) (eq-eqb j h same)
   where
     by : (a b : Bool) → b ≡ true → (a || (b || rest)) ≡ true
     by true b e = refl
     by false b e = ap (λ (x : Bool). x || rest) e
 
-at_second : (n j h : ℕ) (rest : Bool) → j ≡ h → (eqb (secondary_of n j) (secondary_of n h) || rest) ≡ true
+pub at_second : (n j h : ℕ) (rest : Bool) → j ≡ h → (eqb (secondary_of n j) (secondary_of n h) || rest) ≡ true
 at_second n j h rest same = ap (λ (x : Bool). x || rest) (eq-eqb (secondary_of n j) (secondary_of n h) (ap (secondary_of n) same))
 
 -- a cell that another memory keeps isn't the one that changes
-kept_elsewhere : {X : Type 0} (keep this : Bool) (new old nothing : X) → (keep ≡ true → this ≡ true → ⊥) → cond keep old nothing ≡ cond keep (cond this new old) nothing
+pub kept_elsewhere : {X : Type 0} (keep this : Bool) (new old nothing : X) → (keep ≡ true → this ≡ true → ⊥) → cond keep old nothing ≡ cond keep (cond this new old) nothing
 kept_elsewhere true true new old nothing apart = absurd (apart refl refl)
 kept_elsewhere true false new old nothing apart = refl
 kept_elsewhere false this new old nothing apart = refl
 
 -- the owner of a region isn't another memory
-not_owner : (owners : List HomeEntry) (j p r pid region : ℕ) (owner : MemId) → owner_of owners pid region ≡ Some owner → (j ≡ owner.0 → ⊥) → owns owners j p r ≡ true → (pid == p && region == r) ≡ true → ⊥
+pub not_owner : (owners : List HomeEntry) (j p r pid region : ℕ) (owner : MemId) → owner_of owners pid region ≡ Some owner → (j ≡ owner.0 → ⊥) → owns owners j p r ≡ true → (pid == p && region == r) ≡ true → ⊥
 not_owner owners j p r pid region owner owned differ owns_it this =
     let same = both (pid == p) (region == r) this in
     let is : owner_of owners p r ≡ Some owner = (λ i. owner_of owners (sym (eqb-true pid p same.0) i) (sym (eqb-true region r same.1) i)) ∙ owned in
@@ -96,7 +96,7 @@ same_areas n owners f pid region areas owner j owned differ (Home p r) = refl
 same_areas n owners f pid region areas owner j owned differ (Areas p r) = kept_elsewhere (owns owners j p r) (pid == p && region == r) areas (f.areas p r) [] (not_owner owners j p r pid region owner owned differ)
 same_areas n owners f pid region areas owner j owned differ (Page p vpn) = refl
 
-no_owner : (x : MemId) → Some x ≡ None → ⊥
+pub no_owner : (x : MemId) → Some x ≡ None → ⊥
 no_owner x e = cc e
 
 areas_none : (owners : List HomeEntry) (f : Plain) (pid region : ℕ) (areas : List Area) (owner : MemId) → owner_of owners pid region ≡ Some owner → ((p r : ℕ) → owner_of owners p r ≡ None → f.areas p r ≡ []) → (p r : ℕ) → owner_of owners p r ≡ None → (with_region pid region areas f).areas p r ≡ []

@@ -16,3 +16,5 @@ pub mod Crashed
 pub mod Unchanged
 pub mod Changed
 pub mod Dropping
+pub mod Copying
+pub mod Ends

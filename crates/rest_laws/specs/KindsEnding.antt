@@ -1,12 +1,14 @@
 -- The law of each kind of operation at its completion: questions and drains change nothing, what changes files or names
 -- changes nothing that memories keep, and what changes homes, areas or pages changes those of its targets alone.
 use Rattle.std.specs.Prelude.{◌<◌, ℕ, List}
+use Rattle.lego_base.specs.declared.ids.MemId.{MemId}
 use Rattle.lego_base.specs.declared.ids.Pid.{Pid}
+use Rattle.lego_base.specs.declared.ids.RegionNo.{RegionNo}
 use Rattle.lego_base.specs.declared.records.HomeEntry.{HomeEntry}
-use Rattle.lego_msg.specs.Granted.{OpFits}
+use Rattle.lego_msg.specs.Granted.{CopyFits, OpFits}
 use Rattle.lego_msg.specs.Plain.{Plain}
 use Rattle.lego_msg.specs.declared.operation.Operation.{Operation}
-use Rattle.lego_msg.specs.declared.operation.Operation.TheVariants.{AsksAreas, AsksSize, CutsFile, CutsName, Drains, Drops, Finds, FreesFile, GetsName, ListsNames, MakesName, Reads, ReadsFile, SetsAreas, SetsHome, Unmaps, Writes, WritesFile}
+use Rattle.lego_msg.specs.declared.operation.Operation.TheVariants.{AsksAreas, AsksSize, Copies, CutsFile, CutsName, Drains, Drops, Finds, FreesFile, GetsName, Heals, ListsNames, MakesName, Reads, ReadsFile, SetsAreas, SetsHome, Unmaps, Writes, WritesFile}
 use Rattle.lego_rest.specs.Fits.{PlainFits}
 use Rattle.rest_laws.specs.Completing.{KindEnds}
 
@@ -51,3 +53,16 @@ RegionChangesEnd = (n : ℕ) (owners : List HomeEntry) (f : Plain) (o : Operatio
 -- a space that ends: each memory and storage is a target, and its owners end with it
 abbrev pub SpacesEnd : Type 0
 SpacesEnd = (n : ℕ) (owners : List HomeEntry) (f : Plain) (pid : Pid) → 0 < n → PlainFits n owners f → KindEnds n owners f (Drops pid)
+
+-- regions that are copied for a child
+abbrev pub CopiesEnd : Type 0
+CopiesEnd = (n : ℕ) (owners : List HomeEntry) (f : Plain) (parent child : Pid) (regions : List RegionNo) (owner : MemId) →
+    PlainFits n owners f → CopyFits owners parent.0 child.0 owner regions → KindEnds n owners f (Copies parent child regions owner)
+
+-- EVERY KIND that is called for, where its caller owes nothing; the messages of a healing are of no such kind
+abbrev pub IsCalled : Operation → Type 0
+IsCalled (Heals to what) = ⊥
+IsCalled other = Unit {0}
+
+abbrev pub EveryKindEnds : Type 0
+EveryKindEnds = (n : ℕ) (owners : List HomeEntry) (f : Plain) (o : Operation) → 0 < n → PlainFits n owners f → OpFits owners f o → IsCalled o → KindEnds n owners f o

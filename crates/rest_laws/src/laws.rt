@@ -10,7 +10,7 @@ ghost use Rattle.rest_laws.specs.Beginning.{OperationBegins};
 ghost use Rattle.rest_laws.specs.Completing.{OperationEnds};
 ghost use Rattle.rest_laws.specs.Crashing.{CrashBegins};
 ghost use Rattle.rest_laws.specs.Delivering.{OldIsDropped, AnswerIsNoted, ReactionIsOwed};
-ghost use Rattle.rest_laws.specs.KindsEnding.{QuestionsEnd, FileChangesEnd, RegionChangesEnd, SpacesEnd};
+ghost use Rattle.rest_laws.specs.KindsEnding.{EveryKindEnds};
 ghost use Rattle.rest_laws.specs.Sending.{OwedIsSent, FirstIsSent};
 
 /// An entry that is put is found under its key.
@@ -138,22 +138,7 @@ pub fn crashes_begin_in_the_relation()
     ensures { CrashBegins }
 {}
 
-/// Operations that only ask, and drains, meet the law of their kind at their completion.
-pub fn questions_end()
-    ensures { QuestionsEnd }
-{}
-
-/// So do operations on files and names.
-pub fn file_changes_end()
-    ensures { FileChangesEnd }
-{}
-
-/// So do operations on the home of a region, on its areas and on its pages, where their caller owes nothing.
-pub fn region_changes_end()
-    ensures { RegionChangesEnd }
-{}
-
-/// So does the drop of a space, whose owners end with it.
-pub fn spaces_end()
-    ensures { SpacesEnd }
+/// Every kind of operation that is called for meets the law of its completion, where its caller owes nothing.
+pub fn every_kind_ends()
+    ensures { EveryKindEnds }
 {}
