@@ -6,6 +6,7 @@
 -- homes and areas, each old or new as memory m should have them
 use Rattle.std.specs.List.{AllByRecursion, list_any}
 use Rattle.std.specs.Prelude.{◌≡◌, ◌+◌, ◌/◌, ◌<◌, ◌==◌, ◌&&◌, if◌then◌else◌, [], ◌∷◌, ◌++◌, ℕ, Bool, List, None, Option, Some, false, length, not, slice_get, true}
+use Rattle.lego_base.specs.declared.records.HomeEntry.{HomeEntry}
 use Rattle.lego_base.specs.declared.records.PageImage.{PageImage}
 use Rattle.lego_base.specs.declared.records.Patch.{Patch}
 use Rattle.lego_msg.specs.Form.{ArePages}
@@ -177,22 +178,27 @@ Ahead None moves ahead = moves ≡ ahead
 Ahead (Some o) moves [] = ⊥
 Ahead (Some o) moves (move ∷ ahead) = moves ≡ ahead
 
-pub record HealHolds (t : Track) (c : ℕ) (h : Healing) : Type 0 where
+-- Which moves of the healing h are done, and what the memory c holds: it has no log, no batch, no waiting drains and no
+-- cached blocks.
+pub record HealStands (n : ℕ) (mems : List Mem) (owners : List HomeEntry) (c : ℕ) (h : Healing) : Type 0 where
   pub x : Mem
-  pub at : slice_get t.mems c ≡ Some x
+  pub at : slice_get mems c ≡ Some x
   pub done : List Move
   pub ahead : List Move
-  pub all : done ++ ahead ≡ moves_of (memory_count t.shape) c t.owners
+  pub all : done ++ ahead ≡ moves_of n c owners
   pub rest : Ahead h.current h.moves ahead
-  pub between : Between (scene_of t) c (all_pending t) t.next x done h.current h.got ahead
-  -- c has no log, no batch, no waiting drains, no cached blocks, and no background message
   pub log : x.log ≡ []
   pub out : x.out ≡ 0
   pub drains : x.drains ≡ []
   pub blocks : x.blocks ≡ []
+
+pub record HealHolds (t : Track) (c : ℕ) (h : Healing) : Type 0 where
+  pub stands : HealStands (memory_count t.shape) t.mems t.owners c h
+  pub between : Between (scene_of t) c (all_pending t) t.next stands.x stands.done h.current h.got stands.ahead
+  -- no background message of c is pending
   pub background : background c (all_pending t) ≡ []
   -- it has no page that is neither in its old nor in its new share
-  pub pages : (pid vpn : ℕ) → old_share (sides_of t) c (Page pid vpn) ≡ None → new_share (sides_of t) c (Page pid vpn) ≡ None → page_in x.pages pid vpn ≡ None
+  pub pages : (pid vpn : ℕ) → old_share (sides_of t) c (Page pid vpn) ≡ None → new_share (sides_of t) c (Page pid vpn) ≡ None → page_in stands.x.pages pid vpn ≡ None
   -- it hasn't answered the open operation since its crash
   pub forgotten : gave_answer (memory c) (all_pending t) t.current ≡ false
   -- a move and the open operation aren't complete at once, and no other crash comes in this turn

@@ -28,12 +28,10 @@ use Rattle.lego_rest.specs.Rest.{DiskHolds, MemHolds, Middle, SecondHolds}
 use Rattle.rest_laws.proofs.Lookup.{page-overlaid}
 use Rattle.rest_laws.proofs.Opened.{all_both, every, first_from, issuer_apart, issuer_there}
 use Rattle.rest_laws.proofs.Stepping.{batch_stays}
+use Rattle.rest_laws.proofs.Truth.{some_none, third_false}
 use Rattle.rest_laws.proofs.Taken.{any_more, background_more}
 use Rattle.rest_laws.specs.Beginning.{OperationBegins}
 use Rattle.lego_msg.specs.declared.place.Place.TheVariants as place
-
-none_some : {X : Type 0} (x : X) → Some x ≡ None → ⊥
-none_some x e = cc e
 
 none_any : (test : Message → Bool) (pending : List Message) → AllByRecursion (λ (m : Message). test m ≡ false) pending → list_any test pending ≡ false
 none_any test [] all = refl
@@ -53,7 +51,7 @@ over_none n k owners pid vpn none (p ∷ log) page fits = ap (over log pid vpn) 
     owned : p.pid.0 ≡ pid → p.vpn.0 ≡ vpn → ⊥
     owned same same' =
         let owner = fits.0.1 in
-        none_some fits.0.0 (sym owner ∙ (λ i. owner_of owners (same i) (same' i / 512)) ∙ none)
+        some_none fits.0.0 (sym owner ∙ (λ i. owner_of owners (same i) (same' i / 512)) ∙ none)
 
     stays : (a b : Bool) → (p.pid.0 == pid) ≡ a → (p.vpn.0 == vpn) ≡ b → laid_on p pid vpn page ≡ page
     stays true true e f = absurd (owned (eqb-true p.pid.0 pid e) (eqb-true p.vpn.0 vpn f))
@@ -85,7 +83,7 @@ module _ (t : Track) (issuer : Place) (operation : Operation) (owners : List Hom
     where
       by : (c : Option MemId) → owner_of t.owners pid region ≡ c → c ≡ None
       by None e = refl
-      by (Some o) e = absurd (none_some o (sym (granted.grow pid region o e) ∙ none))
+      by (Some o) e = absurd (some_none o (sym (granted.grow pid region o e) ∙ none))
 
   -- of a cell that is nothing where its region has no owner
   owned_alike : {X : Type 0} (k pid region : ℕ) (held nothing : X) → (owner_of t.owners pid region ≡ None → held ≡ nothing) → cond (owns owners k pid region) held nothing ≡ cond (owns t.owners k pid region) held nothing
@@ -134,15 +132,10 @@ module _ (t : Track) (issuer : Place) (operation : Operation) (owners : List Hom
   from_issuer : (m.from ≡ issuer) × (m.op ≡ record { 0 = t.next })
   from_issuer = first_from issuer (record { 0 = t.next }) (asks_of (memory_count t.shape) operation) m is_first
 
-  refused : (a b c d : Bool) → c ≡ false → (a && b && c && d) ≡ false
-  refused true true c d e = ap (λ (x : Bool). x && d) e
-  refused true false c d e = refl
-  refused false b c d e = refl
-
   no_answer : (p : Place) → gave_answer p (all_pending begun_track) (Some begun) ≡ false
   no_answer p =
       ap (list_any (is_answer_from begun p)) (append-nil (t.net ++ m ∷ []))
-      ∙ any_more t.net m (is_answer_from begun p) (refused (m.op.0 == t.next) (same_place m.from p) (same_place m.to issuer) (answers_to (patch_of operation) m.body) (issuer_apart m.to issuer requests.0.component granted.issuer))
+      ∙ any_more t.net m (is_answer_from begun p) (third_false (m.op.0 == t.next) (same_place m.from p) (same_place m.to issuer) (answers_to (patch_of operation) m.body) (issuer_apart m.to issuer requests.0.component granted.issuer))
       ∙ none_any (is_answer_from begun p) t.net (every none_of t.net (subst (AllByRecursion (MayPend None (memory_count t.shape) t.plain None None t.next)) (append-nil t.net) middle.pending))
     where
       none_of : (x : Message) → MayPend None (memory_count t.shape) t.plain None None t.next x → is_answer_from begun p x ≡ false

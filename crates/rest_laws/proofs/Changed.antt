@@ -20,14 +20,11 @@ use Rattle.lego_msg.specs.Plain.{IsMapped, Plain, touched, with_home_of, with_pa
 use Rattle.lego_msg.specs.declared.operation.Operation.TheVariants.{AsksAreas, AsksSize, Copies, CutsFile, CutsName, Drains, Drops, Finds, FreesFile, GetsName, Heals, ListsNames, MakesName, Reads, ReadsFile, SetsAreas, SetsHome, Unmaps, Writes, WritesFile}
 use Rattle.lego_rest.specs.Fits.{PlainFits}
 use Rattle.lego_rest.specs.Parts.{Areas, Cell, Home, Page, is_owner, owns, share}
+use Rattle.rest_laws.proofs.Truth.{both_true, some_none}
 use Rattle.rest_laws.proofs.Unchanged.{owners_stay}
 use Rattle.rest_laws.specs.KindsEnding.{RegionChangesEnd}
 
 -- WHO IS A TARGET of an operation at a memory h and its secondary
-
-pub both : (a b : Bool) → (a && b) ≡ true → (a ≡ true) × (b ≡ true)
-both true b e = (refl, e)
-both false b e = cc e
 
 or_right : (a b c : Bool) → b ≡ true → (a || b || c) ≡ true
 or_right true b c e = refl
@@ -53,7 +50,7 @@ kept_elsewhere false this new old nothing apart = refl
 -- the owner of a region isn't another memory
 pub not_owner : (owners : List HomeEntry) (j p r pid region : ℕ) (owner : MemId) → owner_of owners pid region ≡ Some owner → (j ≡ owner.0 → ⊥) → owns owners j p r ≡ true → (pid == p && region == r) ≡ true → ⊥
 not_owner owners j p r pid region owner owned differ owns_it this =
-    let same = both (pid == p) (region == r) this in
+    let same = both_true (pid == p) (region == r) this in
     let is : owner_of owners p r ≡ Some owner = (λ i. owner_of owners (sym (eqb-true pid p same.0) i) (sym (eqb-true region r same.1) i)) ∙ owned in
     let holder : eqb owner.0 j ≡ true = sym (ap (is_owner j) is) ∙ owns_it in
     differ (sym (eqb-true owner.0 j holder))
@@ -61,7 +58,7 @@ not_owner owners j p r pid region owner owned differ owns_it this =
 -- A HOME
 
 home_elsewhere : (n j p r pid region : ℕ) → (j ≡ home_of n pid → ⊥) → (home_of n p == j) ≡ true → (pid == p && region == r) ≡ true → ⊥
-home_elsewhere n j p r pid region differ home this = differ (sym (eqb-true (home_of n p) j home) ∙ ap (home_of n) (sym (eqb-true pid p (both (pid == p) (region == r) this).0)))
+home_elsewhere n j p r pid region differ home this = differ (sym (eqb-true (home_of n p) j home) ∙ ap (home_of n) (sym (eqb-true pid p (both_true (pid == p) (region == r) this).0)))
 
 same_homes : (n : ℕ) (owners : List HomeEntry) (f : Plain) (pid region : ℕ) (owner : MemId) (j : ℕ) → (j ≡ home_of n pid → ⊥) → (c : Cell) → share n owners f j c ≡ share n owners (with_home_of pid region owner f) j c
 same_homes n owners f pid region owner j differ (Home p r) = kept_elsewhere (home_of n p == j) (pid == p && region == r) (Some owner) (f.homes p r) None (home_elsewhere n j p r pid region differ)
@@ -85,7 +82,7 @@ homes_fit n owners f pid region owner owned fits = record {
       where
         by : (x : Bool) → (pid == p && region == r) ≡ x → cond x (Some owner) (f.homes p r) ≡ Some o → owner_of owners p r ≡ Some o
         by true this home =
-            let same = both (pid == p) (region == r) this in
+            let same = both_true (pid == p) (region == r) this in
             (λ i. owner_of owners (sym (eqb-true pid p same.0) i) (sym (eqb-true region r same.1) i)) ∙ owned ∙ home
         by false this home = fits.homes p r o home
 
@@ -96,23 +93,20 @@ same_areas n owners f pid region areas owner j owned differ (Home p r) = refl
 same_areas n owners f pid region areas owner j owned differ (Areas p r) = kept_elsewhere (owns owners j p r) (pid == p && region == r) areas (f.areas p r) [] (not_owner owners j p r pid region owner owned differ)
 same_areas n owners f pid region areas owner j owned differ (Page p vpn) = refl
 
-pub no_owner : (x : MemId) → Some x ≡ None → ⊥
-no_owner x e = cc e
-
 areas_none : (owners : List HomeEntry) (f : Plain) (pid region : ℕ) (areas : List Area) (owner : MemId) → owner_of owners pid region ≡ Some owner → ((p r : ℕ) → owner_of owners p r ≡ None → f.areas p r ≡ []) → (p r : ℕ) → owner_of owners p r ≡ None → (with_region pid region areas f).areas p r ≡ []
 areas_none owners f pid region areas owner owned was p r none = by (pid == p && region == r) refl
   where
     by : (x : Bool) → (pid == p && region == r) ≡ x → cond x areas (f.areas p r) ≡ []
     by true this =
-        let same = both (pid == p) (region == r) this in
-        absurd (no_owner owner (sym owned ∙ (λ i. owner_of owners (eqb-true pid p same.0 i) (eqb-true region r same.1 i)) ∙ none))
+        let same = both_true (pid == p) (region == r) this in
+        absurd (some_none owner (sym owned ∙ (λ i. owner_of owners (eqb-true pid p same.0 i) (eqb-true region r same.1 i)) ∙ none))
     by false this = was p r none
 
 lists_form : (f : Plain) (pid region : ℕ) (areas : List Area) → IsRegionList region areas → ((p r : ℕ) → IsRegionList r (f.areas p r)) → (p r : ℕ) → IsRegionList r ((with_region pid region areas f).areas p r)
 lists_form f pid region areas form was p r = by (pid == p && region == r) refl
   where
     by : (x : Bool) → (pid == p && region == r) ≡ x → IsRegionList r (cond x areas (f.areas p r))
-    by true this = subst (λ (k : ℕ). IsRegionList k areas) (eqb-true region r (both (pid == p) (region == r) this).1) form
+    by true this = subst (λ (k : ℕ). IsRegionList k areas) (eqb-true region r (both_true (pid == p) (region == r) this).1) form
     by false this = was p r
 
 areas_fit : (n : ℕ) (owners : List HomeEntry) (f : Plain) (pid region : ℕ) (areas : List Area) (owner : MemId) → AreasFit owners f pid region areas owner → PlainFits n owners f → PlainFits n owners (with_region pid region areas f)
@@ -132,7 +126,7 @@ areas_fit n owners f pid region areas owner fit fits = record {
       where
         by : (x : Bool) → (pid == p && region == vpn / 512) ≡ x → IsSome (perms_of (cond x areas (f.areas p (vpn / 512))) vpn)
         by true this =
-            let same = both (pid == p) (region == vpn / 512) this in
+            let same = both_true (pid == p) (region == vpn / 512) this in
             fit.stay vpn (sym (eqb-true region (vpn / 512) same.1)) (subst (λ (q : ℕ). touched f q vpn ≡ true) (sym (eqb-true pid p same.0)) there)
         by false this = fits.mapped p vpn there
 
@@ -145,7 +139,7 @@ same_patched n owners f patch owner j owned differ (Page p vpn) = kept_elsewhere
   where
     apart : owns owners j p (vpn / 512) ≡ true → (patch.pid.0 == p && patch.vpn.0 == vpn) ≡ true → ⊥
     apart owns_it this =
-        let same = both (patch.pid.0 == p) (patch.vpn.0 == vpn) this in
+        let same = both_true (patch.pid.0 == p) (patch.vpn.0 == vpn) this in
         let is : owner_of owners p (vpn / 512) ≡ Some owner = (λ i. owner_of owners (sym (eqb-true patch.pid.0 p same.0) i) (sym (eqb-true patch.vpn.0 vpn same.1) i / 512)) ∙ owned in
         let holder : eqb owner.0 j ≡ true = sym (ap (is_owner j) is) ∙ owns_it in
         differ (sym (eqb-true owner.0 j holder))
@@ -179,8 +173,8 @@ patch_fit n owners f patch owner fit fits = record {
       where
         by : (x : Bool) → (patch.pid.0 == p && patch.vpn.0 == vpn) ≡ x → cond x (Some (laid_over (bytes_or_zeros (f.page p vpn)) patch.off patch.bytes)) (f.page p vpn) ≡ None
         by true this =
-            let same = both (patch.pid.0 == p) (patch.vpn.0 == vpn) this in
-            absurd (no_owner owner (sym fit.owned ∙ (λ i. owner_of owners (eqb-true patch.pid.0 p same.0 i) (eqb-true patch.vpn.0 vpn same.1 i / 512)) ∙ none))
+            let same = both_true (patch.pid.0 == p) (patch.vpn.0 == vpn) this in
+            absurd (some_none owner (sym fit.owned ∙ (λ i. owner_of owners (eqb-true patch.pid.0 p same.0 i) (eqb-true patch.vpn.0 vpn same.1 i / 512)) ∙ none))
         by false this = fits.pages p vpn none
 
     mapped : (p vpn : ℕ) → is_some (laid_on patch p vpn (f.page p vpn)) ≡ true → IsMapped f p vpn
@@ -188,7 +182,7 @@ patch_fit n owners f patch owner fit fits = record {
       where
         by : (x : Bool) → (patch.pid.0 == p && patch.vpn.0 == vpn) ≡ x → is_some (cond x (Some (laid_over (bytes_or_zeros (f.page p vpn)) patch.off patch.bytes)) (f.page p vpn)) ≡ true → IsMapped f p vpn
         by true this there =
-            let same = both (patch.pid.0 == p) (patch.vpn.0 == vpn) this in
+            let same = both_true (patch.pid.0 == p) (patch.vpn.0 == vpn) this in
             subst (λ (q : ℕ × ℕ). IsMapped f q.0 q.1) (λ i. (eqb-true patch.pid.0 p same.0 i, eqb-true patch.vpn.0 vpn same.1 i)) fit.mapped
         by false this there = fits.mapped p vpn there
 
@@ -211,8 +205,8 @@ patch_fit n owners f patch owner fit fits = record {
 -- a page of the range is of the region
 in_region : (pid region first pages p vpn : ℕ) → region * 512 ≤ first → first + pages ≤ region * 512 + 512 → is_page_from pid first pages (key_at p vpn) ≡ true → (p ≡ pid) × (vpn / 512 ≡ region)
 in_region pid region first pages p vpn low high inside =
-    let outer = both (eqb p pid && leb first vpn) (ltb vpn (first + pages)) inside in
-    let inner = both (eqb p pid) (leb first vpn) outer.0 in
+    let outer = both_true (eqb p pid && leb first vpn) (ltb vpn (first + pages)) inside in
+    let inner = both_true (eqb p pid) (leb first vpn) outer.0 in
     let from : first ≤ vpn = leb-true first vpn inner.1 in
     let to : vpn < first + pages = ltb-true vpn (first + pages) outer.1 in
     (eqb-true p pid inner.0, omega (arith, low, high, from, to))
@@ -258,7 +252,7 @@ unmap_fit n owners f pid region first pages areas owner fit fits = record {
           where
             mapped_still : (y : Bool) → (pid == p && region == vpn / 512) ≡ y → IsSome (perms_of (cond y areas (f.areas p (vpn / 512))) vpn)
             mapped_still true this =
-                let same = both (pid == p) (region == vpn / 512) this in
+                let same = both_true (pid == p) (region == vpn / 512) this in
                 let is : pid ≡ p = eqb-true pid p same.0 in
                 let at : vpn / 512 ≡ region = sym (eqb-true region (vpn / 512) same.1) in
                 let out : is_page_from pid first pages (key_at pid vpn) ≡ false = ap (λ (q : ℕ). is_page_from pid first pages (key_at q vpn)) is ∙ outside in

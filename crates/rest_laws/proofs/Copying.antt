@@ -1,22 +1,22 @@
 -- Regions that are copied for a child: who isn't a target keeps the same before and after.
-use Rattle.std.proofs.Common.{◌≡◌, ◌⊎◌, ◌/◌, ◌==◌, ◌&&◌, ◌||◌, [], ◌∷◌, ◌∙◌, ℕ, Bool, List, None, Option, Some, ap, cond, eqb, false, inl, inr, is_some, length, refl, subst, sym, true}
-use Rattle.std.proofs.lemmas.Bool.{eq-eqb, eqb-true}
+use Rattle.std.proofs.Common.{◌≡◌, ◌/◌, ◌==◌, ◌&&◌, [], ◌∷◌, ◌∙◌, ℕ, Bool, List, None, Some, ap, cond, eqb, false, inl, inr, is_some, length, refl, subst, sym, true}
+use Rattle.std.proofs.lemmas.Bool.{eqb-true}
 use Rattle.std.proofs.lemmas.Bool.Decides.{eqb_tells}
 use Rattle.std.specs.Option.{IsSome}
 use Rattle.lego_base.specs.Keys.{is_page_of, key_at}
 use Rattle.lego_base.specs.Space.{perms_of}
 use Rattle.lego_base.specs.declared.ids.MemId.{MemId}
-use Rattle.lego_base.specs.declared.ids.Pid.{Pid}
 use Rattle.lego_base.specs.declared.ids.RegionNo.{RegionNo}
 use Rattle.lego_base.specs.declared.records.HomeEntry.{HomeEntry}
 use Rattle.lego_msg.specs.Form.{IsRegionList}
 use Rattle.lego_msg.specs.Granted.{CopyFits}
 use Rattle.lego_msg.specs.Maps.{owner_of}
-use Rattle.lego_msg.specs.Plain.{IsMapped, Plain, with_region_of, with_regions_of}
+use Rattle.lego_msg.specs.Plain.{Plain, with_region_of, with_regions_of}
 use Rattle.lego_msg.specs.declared.operation.Operation.TheVariants.{Copies}
 use Rattle.lego_rest.specs.Fits.{PlainFits}
 use Rattle.lego_rest.specs.Parts.{Areas, Cell, Home, Page, is_owner, owns, share}
-use Rattle.rest_laws.proofs.Changed.{at_main, at_second, both, kept_elsewhere, no_owner, not_owner}
+use Rattle.rest_laws.proofs.Changed.{at_main, at_second, kept_elsewhere, not_owner}
+use Rattle.rest_laws.proofs.Truth.{both_true, some_none}
 use Rattle.rest_laws.proofs.Noted.{eqb_sym}
 use Rattle.rest_laws.proofs.Unchanged.{owners_stay}
 use Rattle.rest_laws.specs.KindsEnding.{CopiesEnd}
@@ -30,7 +30,7 @@ same_copied_one n owners f parent child r owner j owned differ (Page p vpn) = ke
   where
     apart : owns owners j p (vpn / 512) ≡ true → is_page_of child r (key_at p vpn) ≡ true → ⊥
     apart owns_it this =
-        let same = both (p == child) (vpn / 512 == r) this in
+        let same = both_true (p == child) (vpn / 512 == r) this in
         let is : owner_of owners p (vpn / 512) ≡ Some owner = (λ i. owner_of owners (eqb-true p child same.0 i) (eqb-true (vpn / 512) r same.1 i)) ∙ owned in
         let holder : eqb owner.0 j ≡ true = sym (ap (is_owner j) is) ∙ owns_it in
         differ (sym (eqb-true owner.0 j holder))
@@ -52,8 +52,8 @@ copy_fits_one n owners f parent child r owner owned fits = record {
       where
         by : (x : Bool) → (child == p && r == q) ≡ x → cond x (f.areas parent q) (f.areas p q) ≡ []
         by true this =
-            let same = both (child == p) (r == q) this in
-            absurd (no_owner owner (sym owned ∙ (λ i. owner_of owners (eqb-true child p same.0 i) (eqb-true r q same.1 i)) ∙ none))
+            let same = both_true (child == p) (r == q) this in
+            absurd (some_none owner (sym owned ∙ (λ i. owner_of owners (eqb-true child p same.0 i) (eqb-true r q same.1 i)) ∙ none))
         by false this = fits.areas p q none
 
     pages : (p vpn : ℕ) → owner_of owners p (vpn / 512) ≡ None → cond (is_page_of child r (key_at p vpn)) (f.page parent vpn) (f.page p vpn) ≡ None
@@ -61,8 +61,8 @@ copy_fits_one n owners f parent child r owner owned fits = record {
       where
         by : (x : Bool) → is_page_of child r (key_at p vpn) ≡ x → cond x (f.page parent vpn) (f.page p vpn) ≡ None
         by true this =
-            let same = both (p == child) (vpn / 512 == r) this in
-            absurd (no_owner owner (sym owned ∙ (λ i. owner_of owners (sym (eqb-true p child same.0) i) (sym (eqb-true (vpn / 512) r same.1) i)) ∙ none))
+            let same = both_true (p == child) (vpn / 512 == r) this in
+            absurd (some_none owner (sym owned ∙ (λ i. owner_of owners (sym (eqb-true p child same.0) i) (sym (eqb-true (vpn / 512) r same.1) i)) ∙ none))
         by false this = fits.pages p vpn none
 
     -- the test of a region's areas and that of its pages say the same

@@ -34,7 +34,7 @@ use Rattle.lego_rest.specs.Pending.{AnAnswer, First, FromUp, Goes as BatchGoes, 
 use Rattle.lego_rest.specs.Rest.{CurrentFits, IsReady, Middle, SecondHolds}
 use Rattle.rest_laws.proofs.Lost.{IsApart, all_kept, all_left, any_left, background_gone, background_stays, gave_before, gave_none, plain_stays}
 use Rattle.rest_laws.proofs.Opened.{answers_as_before, every, first_from, of_open, waits_as_before}
-use Rattle.rest_laws.proofs.Sends.{and_true, back_false, both_true, not_true}
+use Rattle.rest_laws.proofs.Truth.{and_true, back_false, both_true, not_true}
 use Rattle.rest_laws.proofs.Stepping.{disk_stays, mem_stays, seconded, set_length}
 use Rattle.rest_laws.specs.Crashing.{CrashBegins}
 use Rattle.rest_laws.specs.Steps.{Goes, Moment, stepped}
@@ -327,17 +327,8 @@ module _ (t : Track) (c : ℕ) (s : Mem) (at_c : slice_get t.mems c ≡ Some s) 
     healing = (
       refl,
       record {
-        x = lost s;
-        at = get_set t.mems c s (lost s) at_c;
-        done = [];
-        ahead = moves_of (memory_count t.shape) c t.owners;
-        all = refl;
-        rest = refl;
+        stands = record { x = lost s; at = get_set t.mems c s (lost s) at_c; done = []; ahead = moves_of (memory_count t.shape) c t.owners; all = refl; rest = refl; log = refl; out = refl; drains = refl; blocks = refl };
         between = (tt, all_not_yet s (moves_of (memory_count t.shape) c t.owners), tt, eqb-suc-zero _);
-        log = refl;
-        out = refl;
-        drains = refl;
-        blocks = refl;
         background = ap (background c) new_pending ∙ background_gone c t.net;
         pages = λ pid vpn old new. refl;
         forgotten = ap (λ (ms : List Message). gave_answer (memory c) ms (forgotten (memory c) t.current)) new_pending ∙ gave_none (memory c) t.net t.current;

@@ -11,7 +11,7 @@ use Rattle.lego_rest.specs.Answers.{all_pending, gave_answer, images_due, is_sto
 use Rattle.lego_rest.specs.Heals.{HealFits, scene_of}
 use Rattle.lego_rest.specs.Pending.{IsNot, IsOld, MayPend}
 use Rattle.lego_rest.specs.Rest.{CurrentFits, Middle}
-use Rattle.rest_laws.proofs.Sends.{and_true, back_false, both_true}
+use Rattle.rest_laws.proofs.Truth.{and_true, back_false, both_true}
 use Rattle.rest_laws.proofs.Stepping.{shift-keeps}
 use Rattle.rest_laws.proofs.Taken.{all_sent, all_taken, batches_same, between_goes, changes_less, done_same, gave_less, is_old, split, storage_same, whole}
 use Rattle.rest_laws.specs.Delivering.{OldIsDropped}
@@ -52,17 +52,8 @@ module _ (lost : Option ℕ) (t : Track) (m : Message) (may : MayDeliver t m) (i
       let holds = fits.1 in (
         fits.0,
         record {
-          x = holds.x;
-          at = holds.at;
-          done = holds.done;
-          ahead = holds.ahead;
-          all = holds.all;
-          rest = holds.rest;
-          between = between_goes t m may (scene_of t) holds.x h.memory.0 t.next holds.done h.current h.got holds.ahead none holds.between;
-          log = holds.log;
-          out = holds.out;
-          drains = holds.drains;
-          blocks = holds.blocks;
+          stands = holds.stands;
+          between = between_goes t m may (scene_of t) holds.stands.x h.memory.0 t.next holds.stands.done h.current h.got holds.stands.ahead none holds.between;
           background = batches_same t m may old.some h.memory.0 ∙ holds.background;
           pages = holds.pages;
           forgotten = back_false (gave_answer (memory h.memory.0) (all_pending t) t.current) (gave_answer (memory h.memory.0) (rest_of ++ t.owed) t.current) (gave_less (memory h.memory.0) (all_pending t) (rest_of ++ t.owed) m (whole t m may) t.current) holds.forgotten;

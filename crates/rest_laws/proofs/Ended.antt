@@ -28,7 +28,7 @@ use Rattle.lego_rest.specs.Pending.{Left, MayPend, OfBackground, OfMove, OfOpera
 use Rattle.lego_rest.specs.Rest.{CurrentFits, IsReady, MemHolds, Middle, SecondHolds}
 use Rattle.rest_laws.proofs.Lookup.{page-overlaid}
 use Rattle.rest_laws.proofs.Opened.{every}
-use Rattle.rest_laws.proofs.Sends.{and_true, both_true, not_true}
+use Rattle.rest_laws.proofs.Truth.{and_true, both_true, not_true}
 use Rattle.rest_laws.specs.Completing.{KindEnds, OperationEnds, SameEntries, SamePages, pages_at}
 use Rattle.lego_msg.specs.declared.place.Place.TheVariants as place
 

@@ -1,3 +1,4 @@
+pub mod Truth
 pub mod Lookup
 pub mod Net
 pub mod Moving

@@ -10,12 +10,9 @@ use Rattle.lego_msg.proofs.Rows.{region}
 use Rattle.lego_msg.specs.Maps.{areas_at, areas_in, areas_key, bytes_or_zeros, home_key, image_bytes, page_at, page_in, page_key, patched}
 use Rattle.lego_rest.specs.Fits.{over}
 use Rattle.keyed_list.proofs.Listed.{Rises-put, Rises-without, find-put, find-without}
+use Rattle.rest_laws.proofs.Truth.{both_true}
 use Rattle.rest_laws.specs.Lists.{AreasWith, FindPut, FindWithout, PageOverlaid, PagePatched}
 use Rattle.rest_laws.specs.Order.{PutRises, WithoutRises}
-
-both : (a b : Bool) → (a && b) ≡ true → (a ≡ true) × (b ≡ true)
-both true b e = (refl, e)
-both false b e = cc e
 
 pub finds-put : FindPut
 finds-put x homes k = find-put home_key x homes k
@@ -72,7 +69,7 @@ bytes_either false x o = refl
 this_page : (p : Patch) (pages : List PageImage) (pid vpn : ℕ) (b : Bool) → (eqb p.pid.0 pid && eqb p.vpn.0 vpn) ≡ b →
     cond b (Some (laid_over (page_at pages p.pid.0 p.vpn.0) p.off p.bytes)) (page_in pages pid vpn) ≡ cond b (Some (laid_over (bytes_or_zeros (page_in pages pid vpn)) p.off p.bytes)) (page_in pages pid vpn)
 this_page p pages pid vpn true e =
-    let two_ = both (eqb p.pid.0 pid) (eqb p.vpn.0 vpn) e in
+    let two_ = both_true (eqb p.pid.0 pid) (eqb p.vpn.0 vpn) e in
     let is : p.pid.0 ≡ pid = eqb-true p.pid.0 pid two_.0 in
     let at : p.vpn.0 ≡ vpn = eqb-true p.vpn.0 vpn two_.1 in
     λ i. Some (laid_over (page_at pages (is i) (at i)) p.off p.bytes)

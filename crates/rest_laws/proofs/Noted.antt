@@ -25,7 +25,7 @@ use Rattle.lego_rest.specs.Pending.{Among, AnAnswer, First, HandedOn, HandsOn, I
 use Rattle.lego_rest.specs.Rest.{CurrentFits, Middle}
 use Rattle.rest_laws.proofs.Net.{any-taken}
 use Rattle.rest_laws.proofs.Opened.{all_among, answers_as_before, every, pends_as_before, waits_as_before}
-use Rattle.rest_laws.proofs.Sends.{and_true, back_false, both_true}
+use Rattle.rest_laws.proofs.Truth.{and_true, back_false, both_true}
 use Rattle.rest_laws.proofs.Stepping.{shift-keeps}
 use Rattle.rest_laws.proofs.Taken.{all_sent, all_taken, batches_same, between_goes, changes_less, done_same, no_batch_to_issuer, not_of_move, split, storage_same, whole}
 use Rattle.rest_laws.specs.Delivering.{AnswerIsNoted}
@@ -289,17 +289,8 @@ module _ (lost : Option ℕ) (t : Track) (o : Open) (m : Message) (may : MayDeli
       let holds = fits.1 in (
         fits.0,
         record {
-          x = holds.x;
-          at = holds.at;
-          done = holds.done;
-          ahead = holds.ahead;
-          all = holds.all;
-          rest = holds.rest;
-          between = between_goes open_track m may (scene_of open_track) holds.x h.memory.0 t.next holds.done h.current h.got holds.ahead not_it holds.between;
-          log = holds.log;
-          out = holds.out;
-          drains = holds.drains;
-          blocks = holds.blocks;
+          stands = holds.stands;
+          between = between_goes open_track m may (scene_of open_track) holds.stands.x h.memory.0 t.next holds.stands.done h.current h.got holds.stands.ahead not_it holds.between;
           background = batches_same open_track m may some h.memory.0 ∙ holds.background;
           pages = holds.pages;
           forgotten = back_false (gave_answer (memory h.memory.0) (all_pending open_track) (Some o)) (gave_answer (memory h.memory.0) (all_pending (taken open_track)) (Some with_answer)) (gave_before (memory h.memory.0)) holds.forgotten;

@@ -1,9 +1,9 @@
 -- The open operation with other messages unsent or other answers: what is pending or waits fits it as before.
-use Rattle.std.proofs.Common.{◌≡◌, [], ◌∷◌, ◌++◌, ℕ, List, Option, Some, ap, false, inl, inr, refl, subst, sym, true}
+use Rattle.std.proofs.Common.{◌≡◌, ◌<◌, ◌&&◌, ◌||◌, [], ◌∷◌, ◌++◌, ℕ, Bool, List, Option, Some, ap, false, inl, inr, refl, subst, sym, true}
 use Rattle.std.specs.List.{AllByRecursion}
 use Rattle.lego_base.specs.declared.ids.OpNo.{OpNo}
 use Rattle.lego_msg.specs.Operations.{Ask, messages_of}
-use Rattle.lego_msg.specs.Places.{is_issuer, same_place}
+use Rattle.lego_msg.specs.Places.{is_issuer, memory, same_place}
 use Rattle.lego_msg.specs.Plain.{Plain}
 use Rattle.lego_msg.specs.State.{Waiter}
 use Rattle.lego_msg.specs.declared.message.Message.{Message}
@@ -11,7 +11,8 @@ use Rattle.lego_msg.specs.declared.operation.Answer.{Answer}
 use Rattle.lego_msg.specs.declared.operation.Open.{Open}
 use Rattle.lego_msg.specs.declared.place.Place.{Place}
 use Rattle.lego_msg.specs.declared.place.Place.TheVariants.{Manager, Memory, Processor, Storage}
-use Rattle.lego_rest.specs.Fits.{AnswerFits, WaiterFits}
+use Rattle.lego_rest.specs.Fits.{AnswerFits, WaiterFits, is_background}
+use Rattle.rest_laws.proofs.Truth.{not_zero}
 use Rattle.lego_rest.specs.Pending.{Among, AnAnswer, First, HandedOn, IsPlace, Left, MayPend, OfBackground, OfMove, OfOpen, OfOperation, Pends, Reaction}
 
 -- LISTS of which all fit
@@ -91,3 +92,7 @@ issuer_apart Storage (Memory k) e f = cc f
 issuer_apart Storage Storage e f = cc f
 issuer_apart Storage Manager e f = refl
 issuer_apart Manager by e f = cc e
+
+-- a message with an operation's number is no batch and no receipt
+pub numbered_is_no_batch : (m : Message) → 0 < m.op.0 → (k : ℕ) → is_background k m ≡ false
+numbered_is_no_batch m some k = ap (λ (b : Bool). b && (same_place m.from (memory k) || same_place m.to (memory k))) (not_zero m.op.0 some)

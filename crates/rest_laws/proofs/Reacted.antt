@@ -23,7 +23,7 @@ use Rattle.lego_rest.specs.Pending.{Among, IsAway, IsNot, Left, MayPend, OfBackg
 use Rattle.lego_rest.specs.Rest.{CurrentFits, Middle}
 use Rattle.rest_laws.proofs.Noted.{OfTarget, calm_moves, is_of_target, of_current}
 use Rattle.rest_laws.proofs.Opened.{all_both, issuer_apart}
-use Rattle.rest_laws.proofs.Sends.{and_true, back_false, both_true}
+use Rattle.rest_laws.proofs.Truth.{and_true, back_false, both_true, third_false}
 use Rattle.rest_laws.proofs.Stepping.{shift-keeps}
 use Rattle.rest_laws.proofs.Taken.{all_sent, all_taken, any_less, any_more, background_more, batches_same, between_goes, between_more, changes_less, done_same, no_batch_to_issuer, not_of_move, split, storage_same, whole}
 use Rattle.rest_laws.specs.Delivering.{ReactionIsOwed}
@@ -152,12 +152,7 @@ module _ (lost : Option ℕ) (t : Track) (o : Open) (m : Message) (what : Body) 
   some = subst (λ (n : ℕ). 0 < n) (sym number) fits.0.some
 
   no_answer : (p : Place) → is_answer_from o p owing ≡ false
-  no_answer p = refused (owing.op.0 == o.number.0) (same_place owing.from p) (same_place owing.to o.by) (answers_to (patch_of o.operation) what) (issuer_apart m.from o.by is_reacted.component fits.0.by)
-    where
-      refused : (a b c d : Bool) → c ≡ false → (a && b && c && d) ≡ false
-      refused true true c d e = ap (λ (x : Bool). x && d) e
-      refused true false c d e = refl
-      refused false b c d e = refl
+  no_answer p = third_false (owing.op.0 == o.number.0) (same_place owing.from p) (same_place owing.to o.by) (answers_to (patch_of o.operation) what) (issuer_apart m.from o.by is_reacted.component fits.0.by)
 
   gave_before : (p : Place) → gave_answer p (all_pending owed_track) (Some o) ≡ true → gave_answer p (all_pending open_track) (Some o) ≡ true
   gave_before p e = by (has_answered p o.answers) e
@@ -182,21 +177,12 @@ module _ (lost : Option ℕ) (t : Track) (o : Open) (m : Message) (what : Body) 
   heal_goes None not_it undone fits = fits
   heal_goes (Some h) not_it undone fits =
       let holds = fits.1 in
-      let without = between_goes open_track m may (scene_of open_track) holds.x h.memory.0 t.next holds.done h.current h.got holds.ahead not_it holds.between in
-      let with_it = between_more (all_pending (taken open_track)) owing (scene_of open_track) holds.x h.memory.0 t.next holds.done h.current h.got holds.ahead not_it without in (
+      let without = between_goes open_track m may (scene_of open_track) holds.stands.x h.memory.0 t.next holds.stands.done h.current h.got holds.stands.ahead not_it holds.between in
+      let with_it = between_more (all_pending (taken open_track)) owing (scene_of open_track) holds.stands.x h.memory.0 t.next holds.stands.done h.current h.got holds.stands.ahead not_it without in (
         fits.0,
         record {
-          x = holds.x;
-          at = holds.at;
-          done = holds.done;
-          ahead = holds.ahead;
-          all = holds.all;
-          rest = holds.rest;
-          between = subst (λ (ms : List Message). Between (scene_of open_track) h.memory.0 ms t.next holds.x holds.done h.current h.got holds.ahead) (sym more) with_it;
-          log = holds.log;
-          out = holds.out;
-          drains = holds.drains;
-          blocks = holds.blocks;
+          stands = holds.stands;
+          between = subst (λ (ms : List Message). Between (scene_of open_track) h.memory.0 ms t.next holds.stands.x holds.stands.done h.current h.got holds.stands.ahead) (sym more) with_it;
           background = batches h.memory.0 ∙ holds.background;
           pages = holds.pages;
           forgotten = back_false (gave_answer (memory h.memory.0) (all_pending open_track) (Some o)) (gave_answer (memory h.memory.0) (all_pending owed_track) (Some o)) (gave_before (memory h.memory.0)) holds.forgotten;

@@ -1,7 +1,6 @@
 -- Sends keep the relation.
 use Rattle.std.proofs.Common.{◌≡◌, ◌<◌, ◌==◌, ◌&&◌, ◌||◌, [], ◌∷◌, ◌++◌, ◌∙◌, ℕ, Bool, List, None, Option, Some, ap, append-nil, append_assoc, arith, cond, false, inl, inr, length, not, refl, slice_get, subst, suc, sym, true}
 use Rattle.std.proofs.lemmas.Bool.{eqb-true}
-use Rattle.std.proofs.lemmas.Bool.Decides.{eqb_tells}
 use Rattle.std.proofs.lemmas.List.Elements.{filter-append}
 use Rattle.std.proofs.lemmas.List.Folds.{list_any-append}
 use Rattle.std.specs.List.{AllByRecursion, list_any}
@@ -20,28 +19,14 @@ use Rattle.lego_rest.specs.Heals.{Between, HealFits, scene_of}
 use Rattle.lego_rest.specs.Parts.{plain_with}
 use Rattle.lego_rest.specs.Pending.{Among, First, IsPlace, MayPend, OfOperation}
 use Rattle.lego_rest.specs.Rest.{CurrentFits, IsReady, Middle}
-use Rattle.rest_laws.proofs.Opened.{all_among, all_both, among_middle, answers_as_before, every, first_from, issuer_apart, issuer_there, pends_as_before, waits_as_before}
+use Rattle.rest_laws.proofs.Opened.{all_among, all_both, among_middle, answers_as_before, every, first_from, issuer_apart, issuer_there, numbered_is_no_batch, pends_as_before, waits_as_before}
 use Rattle.rest_laws.proofs.Stepping.{shift-keeps}
+use Rattle.rest_laws.proofs.Truth.{and_true, back_false, both_true, not_true, or_false, or_nothing, third_false}
 use Rattle.rest_laws.specs.Sending.{FirstIsSent, OwedIsSent}
 use Rattle.rest_laws.specs.Steps.{Moment, Shift}
 use Rattle.lego_msg.specs.declared.place.Place.TheVariants as place
 
 -- MORE MESSAGES IN THE NET: what is complete with them was complete, and what storage isn't asked it wasn't
-
-or_false : (a b : Bool) → (a || b) ≡ false → a ≡ false
-or_false true b e = cc e
-or_false false b e = refl
-
-pub not_true : (a : Bool) → not a ≡ true → a ≡ false
-not_true true e = cc e
-not_true false e = refl
-
-pub both_true : (a b : Bool) → (a && b) ≡ true → (a ≡ true) × (b ≡ true)
-both_true true b e = (refl, e)
-both_true false b e = cc e
-
-pub and_true : (a b : Bool) → a ≡ true → b ≡ true → (a && b) ≡ true
-and_true a b e f = ap (λ (x : Bool). x && b) e ∙ f
 
 -- a test that holds of no message of a longer list holds of none of a shorter one
 pub none_of_front : (test : Message → Bool) (net out : List Message) → list_any test (net ++ out) ≡ false → list_any test net ≡ false
@@ -56,11 +41,6 @@ complete_before net out o is =
 pub done_before : (net out : List Message) (o : Option Open) → is_done (net ++ out) o ≡ true → is_done net o ≡ true
 done_before net out None is = cc is
 done_before net out (Some o) is = complete_before net out o is
-
--- what was false stays false, where being true goes back
-pub back_false : (a b : Bool) → (b ≡ true → a ≡ true) → a ≡ false → b ≡ false
-back_false a true back e = let both : true ≡ false = sym (back refl) ∙ e in cc both
-back_false a false back e = refl
 
 pub storage_before : (net out : List Message) (h : Option Healing) (o : Option Open) → is_storage_true (net ++ out) h o ≡ true → is_storage_true net h o ≡ true
 storage_before net out h None is = is
@@ -110,17 +90,8 @@ module _ (lost : Option ℕ) (t : Track) (m : Message) (more : List Message) (is
       let holds = fits.1 in (
         fits.0,
         record {
-          x = holds.x;
-          at = holds.at;
-          done = holds.done;
-          ahead = holds.ahead;
-          all = holds.all;
-          rest = holds.rest;
-          between = subst (λ (ms : List Message). Between (scene_of t) h.memory.0 ms t.next holds.x holds.done h.current h.got holds.ahead) (sym same_pending) holds.between;
-          log = holds.log;
-          out = holds.out;
-          drains = holds.drains;
-          blocks = holds.blocks;
+          stands = holds.stands;
+          between = subst (λ (ms : List Message). Between (scene_of t) h.memory.0 ms t.next holds.stands.x holds.stands.done h.current h.got holds.stands.ahead) (sym same_pending) holds.between;
           background = ap (background h.memory.0) same_pending ∙ holds.background;
           pages = holds.pages;
           forgotten = ap (λ (ms : List Message). gave_answer (memory h.memory.0) ms t.current) same_pending ∙ holds.forgotten;
@@ -257,18 +228,9 @@ module _ (t : Track) (o : Open) (m : Message) (more : List Message) (is : t.curr
   any_before test none =
       ap (list_any test) later ∙ list_any-append test t.net (m ∷ []) ∙ ap (λ (b : Bool). list_any test t.net || (b || false)) none
       ∙ or_nothing (list_any test t.net) ∙ ap (list_any test) (sym before)
-    where
-      or_nothing : (b : Bool) → (b || false) ≡ b
-      or_nothing true = refl
-      or_nothing false = refl
 
   no_answer : (p : Place) → is_answer_from o p m ≡ false
-  no_answer p = refused (m.op.0 == o.number.0) (same_place m.from p) (same_place m.to o.by) (answers_to (patch_of o.operation) m.body) (issuer_apart m.to o.by request.component fits.0.by)
-    where
-      refused : (a b c d : Bool) → c ≡ false → (a && b && c && d) ≡ false
-      refused true true c d e = ap (λ (x : Bool). x && d) e
-      refused true false c d e = refl
-      refused false b c d e = refl
+  no_answer p = third_false (m.op.0 == o.number.0) (same_place m.from p) (same_place m.to o.by) (answers_to (patch_of o.operation) m.body) (issuer_apart m.to o.by request.component fits.0.by)
 
   answered_open : (p : Place) → gave_answer p ((t.net ++ m ∷ []) ++ t.owed) (Some with_more) ≡ true → gave_answer p (all_pending t) (Some o) ≡ true
   answered_open p e = ap (λ (b : Bool). has_answered p o.answers || b) (sym (any_before (is_answer_from o p) (no_answer p))) ∙ e
@@ -306,13 +268,7 @@ module _ (t : Track) (o : Open) (m : Message) (more : List Message) (is : t.curr
           and_true (is_storage_true t.net t.healing (Some o)) (gave_answer place.Storage (all_pending t) (Some o)) (storage_as_before both.0) (answered_open place.Storage both.1)
 
   no_batch : (k : ℕ) → is_background k m ≡ false
-  no_batch k = ap (λ (b : Bool). b && (same_place m.from (memory k) || same_place m.to (memory k))) (ap (λ (n : OpNo). n.0 == 0) from_issuer.1 ∙ not_zero o.number.0 fits.0.some)
-    where
-      not_zero : (n : ℕ) → 0 < n → (n == 0) ≡ false
-      not_zero n some = elim (eqb_tells n 0) [
-        | inl e ↦ let none = e.1 in absurd (omega (arith, none, some))
-        | inr e ↦ e.0
-      ]
+  no_batch = numbered_is_no_batch m (subst (λ (n : OpNo). 0 < n.0) (sym from_issuer.1) fits.0.some)
 
   batches_as_before : (k : ℕ) → background k ((t.net ++ m ∷ []) ++ t.owed) ≡ background k (all_pending t)
   batches_as_before k =

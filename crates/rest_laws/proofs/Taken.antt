@@ -1,12 +1,11 @@
 -- What stays of the pending messages once an issuer gets one.
 use Rattle.std.proofs.Common.{◌≡◌, ◌+◌, ◌<◌, ◌==◌, ◌&&◌, ◌||◌, [], ◌∷◌, ◌++◌, ◌∙◌, ℕ, Bool, List, None, Option, Some, ap, append-nil, arith, cond, false, inl, inr, length, not, refl, subst, sym, true}
 use Rattle.std.proofs.lemmas.Bool.{eqb-false}
-use Rattle.std.proofs.lemmas.Bool.Decides.{eqb_tells}
 use Rattle.std.proofs.lemmas.List.Elements.{filter-append}
 use Rattle.std.proofs.lemmas.List.Folds.{list_any-append}
 use Rattle.std.specs.List.{AllByRecursion, list_any}
 use Rattle.lego_msg.specs.Deliveries.{MayDeliver, is_waiting, taken}
-use Rattle.lego_msg.specs.Places.{is_issuer, memory, same_place}
+use Rattle.lego_msg.specs.Places.{is_issuer, same_place}
 use Rattle.lego_msg.specs.Plain.{Plain}
 use Rattle.lego_msg.specs.State.{Block, Mem}
 use Rattle.lego_msg.specs.Track.{Track, all_answered, has_answered, is_done, taken_out}
@@ -23,8 +22,8 @@ use Rattle.lego_rest.specs.Heals.{Between, Scene, count_drains, count_number, is
 use Rattle.lego_rest.specs.Pending.{Goes, IsBatch, IsNot, IsOf, IsOfMove, IsOld, Left, OfBackground, OfMove, OfOperation, Pends, Returns}
 use Rattle.lego_rest.specs.Rest.{IsReady}
 use Rattle.rest_laws.proofs.Net.{any-taken, background-taken, takes-one}
-use Rattle.rest_laws.proofs.Opened.{all_both}
-use Rattle.rest_laws.proofs.Sends.{back_false}
+use Rattle.rest_laws.proofs.Opened.{all_both, numbered_is_no_batch}
+use Rattle.rest_laws.proofs.Truth.{back_false, or_nothing}
 use Rattle.rest_laws.specs.Nets.{Split}
 use Rattle.lego_msg.specs.declared.place.Place.TheVariants as place
 
@@ -139,16 +138,7 @@ module _ (t : Track) (m : Message) (may : MayDeliver t m) where
   whole = record { front = split.front; back = split.back; whole = before ∙ split.whole; rest = later ∙ split.rest }
 
   pub batches_same : 0 < m.op.0 → (k : ℕ) → background k (all_pending (taken t)) ≡ background k (all_pending t)
-  batches_same some k = (background-taken k (all_pending t) (all_pending (taken t)) m whole).0 (no_batch some k)
-    where
-      no_batch : 0 < m.op.0 → (k : ℕ) → is_background k m ≡ false
-      no_batch some k = ap (λ (b : Bool). b && (same_place m.from (memory k) || same_place m.to (memory k))) (not_zero m.op.0 some)
-        where
-          not_zero : (n : ℕ) → 0 < n → (n == 0) ≡ false
-          not_zero n some = elim (eqb_tells n 0) [
-            | inl e ↦ let none = e.1 in absurd (omega (arith, none, some))
-            | inr e ↦ e.0
-          ]
+  batches_same some k = (background-taken k (all_pending t) (all_pending (taken t)) m whole).0 (numbered_is_no_batch m some k)
 
   -- all first messages of the open operation are sent
   pub all_sent : (o : Open) → is_waiting t.healing (Some o) ≡ true → IsReady t o → (length o.unsent == 0) ≡ true
@@ -192,24 +182,11 @@ module _ (t : Track) (m : Message) (may : MayDeliver t m) where
 module _ (pending : List Message) (r : Message) where
   pub any_more : (test : Message → Bool) → test r ≡ false → list_any test (pending ++ r ∷ []) ≡ list_any test pending
   any_more test none = list_any-append test pending (r ∷ []) ∙ ap (λ (b : Bool). list_any test pending || (b || false)) none ∙ or_nothing (list_any test pending)
-    where
-      or_nothing : (b : Bool) → (b || false) ≡ b
-      or_nothing true = refl
-      or_nothing false = refl
 
   pub background_more : 0 < r.op.0 → (k : ℕ) → background k (pending ++ r ∷ []) ≡ background k pending
   background_more some k =
       filter-append (is_background k) pending (r ∷ [])
-      ∙ ap (λ (b : Bool). background k pending ++ cond b (r ∷ []) []) (no_batch some k) ∙ append-nil (background k pending)
-    where
-      no_batch : 0 < r.op.0 → (k : ℕ) → is_background k r ≡ false
-      no_batch some k = ap (λ (b : Bool). b && (same_place r.from (memory k) || same_place r.to (memory k))) (not_zero r.op.0 some)
-        where
-          not_zero : (n : ℕ) → 0 < n → (n == 0) ≡ false
-          not_zero n some = elim (eqb_tells n 0) [
-            | inl e ↦ let none = e.1 in absurd (omega (arith, none, some))
-            | inr e ↦ e.0
-          ]
+      ∙ ap (λ (b : Bool). background k pending ++ cond b (r ∷ []) []) (numbered_is_no_batch r some k) ∙ append-nil (background k pending)
 
   pub between_more : (w : Scene) (x : Mem) (c next : ℕ) (done : List Move) (move : Option Open) (got : Option Body) (ahead : List Move) → IsNot move r.op.0 → Between w c pending next x done move got ahead → Between w c (pending ++ r ∷ []) next x done move got ahead
   between_more w x c next done None got ahead none all = all
