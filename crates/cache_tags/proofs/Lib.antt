@@ -1,5 +1,10 @@
 mod CacheRows
 pub mod Ends
 pub mod Ways
+pub mod Lines
+pub mod Crowds
+pub mod Shown
+pub mod Changes
+pub mod Follows
 pub mod Made
 pub mod Lowest

@@ -8,14 +8,12 @@ use std::test::Fail;
 #[test]
 fn a_crash_forgets_the_answer(rt: HostRuntime) -> Result<(), Fail> {
     let memory = Place::Memory(MemId(1));
-    let targets = [memory, Place::Storage];
-    let mut op = Op::new(rt.alloc(), OpNo(7), &targets)?;
-    assert_eq!(rt; op.number().0, 7);
+    let mut op = Op::new(rt.alloc(), OpNo(7), &[memory, Place::Storage])?;
     op.answered(memory);
     op.crashed(memory);
     op.answered(Place::Storage);
-    assert!(rt; !op.complete());
+    let open = !op.complete();
     op.answered(memory);
-    assert!(rt; op.complete());
+    assert!(rt; open && op.complete() && op.number().0 == 7);
     Ok(())
 }
