@@ -60,11 +60,14 @@ stays c lines new x past e un here short d dc members =
     let crowd : List Key = crowd_after c x e (crowd_along c x past []) in
     let n : length crowd ≡ length (before x new) = same-length crowd (before x new) dc (distinct-before x new d) members in
     let less : length crowd < c.ways = (let m = before-short x new here in omega (arith, n, m, short)) in
-    inl (here, record {
-      quiet = crowded-last c x e past [] ∙ or_false (was_crowded c x past []) (leb c.ways (length crowd)) un.quiet (lt-leb c.ways (length crowd) less);
-      distinct = subst Distinct (sym (crowd-last c x e past [])) dc;
-      members = λ z. ap (has_line z) (crowd-last c x e past []) ∙ members z;
-    })
+    inl (
+      here,
+      record {
+        quiet = crowded-last c x e past [] ∙ or_false (was_crowded c x past []) (leb c.ways (length crowd)) un.quiet (lt-leb c.ways (length crowd) less);
+        distinct = subst Distinct (sym (crowd-last c x e past [])) dc;
+        members = λ z. ap (has_line z) (crowd-last c x e past []) ∙ members z;
+      },
+    )
 
 pub stays_away : (c : Size) (new : List Key) (x : Key) (past : List Past) (e : Past) → was_crowded c x past [] ≡ true → has_line x new ≡ false → Tied c new x (Some (past ++ e ∷ []))
 stays_away c new x past e crowded away = inr (away, crowded-last c x e past [] ∙ or_left (was_crowded c x past []) (leb c.ways (length (crowd_after c x e (crowd_along c x past [])))) crowded)
@@ -85,11 +88,14 @@ unchanged c lines x past e short d same (inr away) = stays_away c lines x past e
 -- a line that was just touched has no crowd
 pub touched_itself : (c : Size) (x : Key) (lines : List Key) → 0 < c.ways → Tied c (x ∷ lines) x (Some [])
 touched_itself c x lines some =
-    inl (ap (λ (b : Bool). b || has_line x lines) (same_self x), record {
-      quiet = lt-leb c.ways 0 some;
-      distinct = tt;
-      members = λ z. ap (has_line z) (sym (cond-true (same_key x x) [] (x ∷ before x lines) (same_self x)));
-    })
+    inl (
+      ap (λ (b : Bool). b || has_line x lines) (same_self x),
+      record {
+        quiet = lt-leb c.ways 0 some;
+        distinct = tt;
+        members = λ z. ap (has_line z) (sym (cond-true (same_key x x) [] (x ∷ before x lines) (same_self x)));
+      },
+    )
 
 crowd_touched : (c : Size) (x y : Key) (crowd : List Key) → same_set c x y ≡ true → same_key x y ≡ false → crowd_after c x (Touched y) crowd ≡ with_new y crowd
 crowd_touched c x y crowd set other = cond-true (same_set c x y && not (same_key x y)) (with_new y crowd) crowd (λ i. set i && not (other i))

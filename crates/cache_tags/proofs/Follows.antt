@@ -27,20 +27,20 @@ pub record Follows (c : Size) (t : Tagged) (so : Key → Option (List Past)) : T
 
 -- A SET CHANGES
 
-at_set : (c : Size) (t t' : Tagged) (x y : Key) (s : SetLines) → length t.sets ≡ c.sets → 0 < c.sets → t'.sets ≡ set t.sets (y.number % length t.sets) s → x.number % c.sets ≡ y.number % c.sets → set_for x t' ≡ s
+pub at_set : (c : Size) (t t' : Tagged) (x y : Key) (s : SetLines) → length t.sets ≡ c.sets → 0 < c.sets → t'.sets ≡ set t.sets (y.number % length t.sets) s → x.number % c.sets ≡ y.number % c.sets → set_for x t' ≡ s
 at_set c t t' x y s count some e near =
     let n : length t'.sets ≡ length t.sets = ap (λ (ss : List SetLines). length ss) e ∙ length-set t.sets (y.number % length t.sets) s in
     let same : x.number % length t'.sets ≡ y.number % length t.sets = ap (λ (k : ℕ). x.number % k) (n ∙ count) ∙ near ∙ ap (λ (k : ℕ). y.number % k) (sym count) in
     let less : y.number % length t.sets < length t.sets = mod-lt y.number (let p : 0 < length t.sets = omega (arith, count, some) in p) in
     (λ i. get_or (e i) (same i) (empty_set 0 0)) ∙ get_or-set_same t.sets (y.number % length t.sets) s (empty_set 0 0) less
 
-off_set : (c : Size) (t t' : Tagged) (x y : Key) (s : SetLines) → length t.sets ≡ c.sets → t'.sets ≡ set t.sets (y.number % length t.sets) s → (x.number % c.sets ≡ y.number % c.sets → ⊥) → set_for x t' ≡ set_for x t
+pub off_set : (c : Size) (t t' : Tagged) (x y : Key) (s : SetLines) → length t.sets ≡ c.sets → t'.sets ≡ set t.sets (y.number % length t.sets) s → (x.number % c.sets ≡ y.number % c.sets → ⊥) → set_for x t' ≡ set_for x t
 off_set c t t' x y s count e far =
     let n : length t'.sets ≡ length t.sets = ap (λ (ss : List SetLines). length ss) e ∙ length-set t.sets (y.number % length t.sets) s in
     let differ : x.number % length t.sets ≡ y.number % length t.sets → ⊥ = (λ same. far (ap (λ (k : ℕ). x.number % k) (sym count) ∙ same ∙ ap (λ (k : ℕ). y.number % k) count)) in
     (λ i. get_or (e i) (x.number % n i) (empty_set 0 0)) ∙ get_or-set_other t.sets (y.number % length t.sets) (x.number % length t.sets) s (empty_set 0 0) differ
 
-same_set_for : (c : Size) (t : Tagged) (x y : Key) → length t.sets ≡ c.sets → x.number % c.sets ≡ y.number % c.sets → set_for y t ≡ set_for x t
+pub same_set_for : (c : Size) (t : Tagged) (x y : Key) → length t.sets ≡ c.sets → x.number % c.sets ≡ y.number % c.sets → set_for y t ≡ set_for x t
 same_set_for c t x y count near = ap (λ (k : ℕ). get_or t.sets k (empty_set 0 0)) (ap (λ (k : ℕ). y.number % k) count ∙ sym near ∙ ap (λ (k : ℕ). x.number % k) (sym count))
 
 good_for : (c : Size) (x y : Key) (s : SetLines) → x.number % c.sets ≡ y.number % c.sets → IsGood c y s → IsGood c x s
@@ -105,16 +105,16 @@ far_touch : (c : Size) (x y : Key) (s : SetLines) (so : Option (List Past)) → 
 far_touch c x y s so good far tied =
     later_touch c x y (keys s.lines) (keys s.lines) so (λ e. absurd (clash (same_key x y) e (not_same_far c x y far))) (λ e none. none)
     (λ past e tied. unchanged c (keys s.lines) x past (Touched y) (short_set c x s good) good.distinct
-      (λ here un. cond-false (same_set c x y && not (same_key x y)) (with_new y (crowd_along c x past [])) (crowd_along c x past []) (λ i. ne_eqb (x.number % c.sets) (y.number % c.sets) far i && not (same_key x y)))
-      tied)
+    (λ here un. cond-false (same_set c x y && not (same_key x y)) (with_new y (crowd_along c x past [])) (crowd_along c x past []) (λ i. ne_eqb (x.number % c.sets) (y.number % c.sets) far i && not (same_key x y)))
+    tied)
     tied
 
 far_removal : (c : Size) (x y : Key) (s : SetLines) (so : Option (List Past)) → IsGood c x s → (x.number % c.sets ≡ y.number % c.sets → ⊥) → Tied c (keys s.lines) x so → Tied c (keys s.lines) x (since_after x (Removed y) so)
 far_removal c x y s so good far tied =
     later_removal c x y (keys s.lines) (keys s.lines) so (λ e. absurd (clash (same_key x y) e (not_same_far c x y far))) (λ e none. none)
     (λ past e tied. unchanged c (keys s.lines) x past (Removed y) (short_set c x s good) good.distinct
-      (λ here un. without-absent y (crowd_along c x past []) (un.members y ∙ absent))
-      tied)
+    (λ here un. without-absent y (crowd_along c x past []) (un.members y ∙ absent))
+    tied)
     tied
   where
     absent : has_line y (before x (keys s.lines)) ≡ false
@@ -130,9 +130,9 @@ touch_step : (c : Size) (t t' : Tagged) (y : Key) (s : SetLines) (so : Key → O
 touch_step c t t' y s so follows some e takes =
     step c t t' y s so (λ x. since_after x (Touched y) (so x)) follows some e takes.good
     (λ x near tied. later_touch c x y (keys (set_for y t).lines) (keys s.lines) (so x)
-      (λ same. subst (λ (k : Key). Tied c (keys s.lines) k (Some [])) (sym (same_is x y same)) takes.front)
-      (λ other none. takes.none x other none)
-      (λ past other tied. takes.others x past (eq-eqb (x.number % c.sets) (y.number % c.sets) near) other tied) tied)
+    (λ same. subst (λ (k : Key). Tied c (keys s.lines) k (Some [])) (sym (same_is x y same)) takes.front)
+    (λ other none. takes.none x other none)
+    (λ past other tied. takes.others x past (eq-eqb (x.number % c.sets) (y.number % c.sets) near) other tied) tied)
     (λ x far tied. far_touch c x y (set_for x t) (so x) (follows.good x) far tied)
 
 touched_by : (c : Size) (t : Tagged) (y : Key) (so : Key → Option (List Past)) → Follows c t so → 0 < c.sets → 0 < c.ways → (o : Option ℕ) → position (is_of y) (set_for y t).lines ≡ o → Follows c (after_touch (pid_of y) (line_of y) t o) (λ x. since_after x (Touched y) (so x))
@@ -143,9 +143,9 @@ drop_step : (c : Size) (t t' : Tagged) (y : Key) (s : SetLines) (so : Key → Op
 drop_step c t t' y s so follows some e drops =
     step c t t' y s so (λ x. since_after x (Removed y) (so x)) follows some e drops.good
     (λ x near tied. later_removal c x y (keys (set_for y t).lines) (keys s.lines) (so x)
-      (λ same. ap (λ (k : Key). has_line k (keys s.lines)) (same_is x y same) ∙ drops.gone)
-      (λ other none. drops.none x other none)
-      (λ past other tied. drops.others x past other tied) tied)
+    (λ same. ap (λ (k : Key). has_line k (keys s.lines)) (same_is x y same) ∙ drops.gone)
+    (λ other none. drops.none x other none)
+    (λ past other tied. drops.others x past other tied) tied)
     (λ x far tied. far_removal c x y (set_for x t) (so x) (follows.good x) far tied)
 
 -- a line that isn't there
@@ -153,8 +153,8 @@ absent_drop : (c : Size) (x y : Key) (s : SetLines) (so : Option (List Past)) �
 absent_drop c x y s so good gone tied =
     later_removal c x y (keys s.lines) (keys s.lines) so (λ e. ap (λ (k : Key). has_line k (keys s.lines)) (same_is x y e) ∙ gone) (λ e none. none)
     (λ past e tied. unchanged c (keys s.lines) x past (Removed y) (short_set c x s good) good.distinct
-      (λ here un. without-absent y (crowd_along c x past []) (un.members y ∙ absent))
-      tied)
+    (λ here un. without-absent y (crowd_along c x past []) (un.members y ∙ absent))
+    tied)
     tied
   where
     absent : has_line y (before x (keys s.lines)) ≡ false

@@ -6,5 +6,6 @@ pub mod Crowds
 pub mod Shown
 pub mod Changes
 pub mod Follows
+pub mod Victims
 pub mod Made
 pub mod Lowest

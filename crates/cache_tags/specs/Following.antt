@@ -5,8 +5,11 @@ use Rattle.lego_base.specs.declared.ids.LineNo.{LineNo}
 use Rattle.lego_base.specs.declared.ids.Pid.{Pid}
 use Rattle.cache_tags.specs.CacheRule.{Cleaned, Past, Removed, Size, Stored, Touched}
 use Rattle.cache_tags.specs.Sets.{Tagged}
-use Rattle.cache_tags.specs.Tags.{marked, no_lines, removed, slot_of_line, touched}
+use Rattle.cache_tags.specs.Tags.{marked, no_lines, removed, slot_of_line, touch_of, touched}
 use Rattle.cache_tags.specs.declared.set.Held.{Held}
+use Rattle.cache_tags.specs.declared.tags.Touch.{Touch}
+use Rattle.cache_tags.specs.declared.tags.Touch.TheVariants.{Hit, Miss}
+use Rattle.cache_tags.specs.declared.tags.Victim.{Victim}
 
 abbrev pub pid_of : Key → Pid
 pid_of x = record { 0 = x.pid }
@@ -39,3 +42,19 @@ along (e ∷ past) t = along past (after_past e t)
 -- the lists of an empty cache after a past
 abbrev pub lists_after : Size → List Past → Tagged
 lists_after c past = along past (no_lines c.sets c.ways)
+
+-- the line that a touch made leave
+abbrev pub victim_key : Option Victim → Option Key
+victim_key None = None
+victim_key (Some v) = Some (key_at v.pid.0 v.line.0)
+
+abbrev pub victim_in : Touch → Option Key
+victim_in (Hit slot) = None
+victim_in (Miss slot victim) = victim_key victim
+
+abbrev pub is_hit_answer : Touch → Bool
+is_hit_answer (Hit slot) = true
+is_hit_answer (Miss slot victim) = false
+
+abbrev pub touch_for : Key → Tagged → Touch
+touch_for x t = touch_of (pid_of x) (line_of x) t

@@ -12,7 +12,7 @@ mod least;
 mod set;
 mod tags;
 
-pub use laws::{a_removed_line_is_gone, a_touched_line_is_there};
+pub use laws::{a_removed_line_is_gone, a_touched_line_is_there, lists_follow_the_rule};
 pub use set::Held;
 pub use tags::{Tags, Touch, Victim};
 
