@@ -34,7 +34,7 @@ weight_of (Reset pid region pages) = 64 + sum_by (λ (p : PageImage). length p.b
 abbrev pub weights : List Seg → ℕ
 weights segments = sum_by weight_of segments
 
--- segments that weigh too much for so many images
+-- segments that weigh too much for a number of images
 abbrev pub is_heavy : ℕ → ℕ → Bool
 is_heavy weight images = nat_lt (8192 * images + 1048576) weight
 

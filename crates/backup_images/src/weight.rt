@@ -60,7 +60,7 @@ pub(crate) fn weights(before: u64, segments: &[Seg]) -> Result<u64, NoMemory>
     Ok(weight)
 }
 
-/// Whether segments of this weight are too heavy for so many images.
+/// Whether segments of this weight are too heavy for `images` images.
 pub(crate) fn is_heavy(weight: u64, images: usize) -> bool
     ensures { result ≡ is_heavy weight images }
 {
