@@ -1,0 +1,6 @@
+pub mod Places
+pub mod Changes
+pub mod Laid
+pub mod Freed
+pub mod Replaced
+pub mod Formed

@@ -1,0 +1,12 @@
+//! The pages of a memory: a map from pages to their bytes, in as many frames as there are.
+//!
+//! Contracts see a [`PageStore`] as the record `Store` of `specs/Store`: the number of frames, and the list of present
+//! pages, rising by process and page, with the functions of lego_msg's `Maps` and lego_base's `Keys`. A page that isn't
+//! present reads 0. Only `PageStore::new` and `PageStore::pages_of` take memory.
+#![tactic(auto)]
+
+mod frames;
+mod spot;
+mod store;
+
+pub use store::{Full, PageStore};
