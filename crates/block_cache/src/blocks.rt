@@ -36,7 +36,7 @@ impl Model for Blocks {
 impl Blocks {
     ghost use Rattle.block_cache.specs.Cache.{dropped, dropped_file, filled, used};
 
-    /// No block is held. There is room for so many.
+    /// No block is held. There is room for `room` of them.
     pub fn new(alloc: Global, room: u32) -> Result<Blocks, NoMemory>
         ensures { IfOk result (λ blocks. blocks ≡ record { room = room; blocks = [] }) }
     {

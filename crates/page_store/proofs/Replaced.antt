@@ -61,7 +61,7 @@ pub all_whole : (pid region : ℕ) (pages : List PageImage) → AllByRecursion (
 all_whole pid region [] all = tt
 all_whole pid region (p ∷ pages) all = (all.0.2, all_whole pid region pages all.1)
 
--- so many pages there are then
+-- how many pages there are then
 pub length-with_pages : (pid region : ℕ) (new pages : List PageImage) → ArePages pid region new → length (with_pages pid region new pages) + length (pages_of pid region pages) ≡ length new + length pages
 length-with_pages pid region new pages form =
     let more = length-put_all page_key new (without page_key (is_page_of pid region) pages) form.0 (gone_absent page_key (is_page_of pid region) new pages (all_there pid region new form.1)) in

@@ -14,7 +14,7 @@ pub record Store : Type 0 where
 abbrev pub holding : Store → List PageImage → Store
 holding s pages = record s { pages = pages }
 
--- whether so many pages are too many
+-- whether these pages are too many
 abbrev pub are_too_many : Store → List PageImage → Bool
 are_too_many s pages = nat_lt s.frames (length pages)
 

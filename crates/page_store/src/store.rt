@@ -50,7 +50,7 @@ impl Model for PageStore {
 impl PageStore {
     ghost use Rattle.page_store.specs.Store.{are_too_many, holding};
 
-    /// A store without pages, with room for so many. Takes all memory that the store will ever need.
+    /// A store without pages, with room for `frames` of them. Takes all memory that the store will ever need.
     pub fn new(alloc: Global, frames: u32) -> Result<PageStore, NoMemory>
         ensures { IfOk result (λ store. store ≡ record { frames = frames; pages = [] }) }
     {
