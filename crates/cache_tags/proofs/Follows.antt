@@ -215,7 +215,7 @@ empty_good c x zero first i less = absurd (omega (arith, less))
 empty_good c x (suc n) first zero less = record { ways = (let e = length_range first c.ways in omega (arith, e)); distinct = tt; own = λ z e. cc e }
 empty_good c x (suc n) first (suc i) less = empty_good c x n (first + c.ways) i (omega (arith, less))
 
-empty_lines : (ways n first i : ℕ) → (get_or (empty_sets n ways first) i (empty_set 0 0)).lines ≡ []
+pub empty_lines : (ways n first i : ℕ) → (get_or (empty_sets n ways first) i (empty_set 0 0)).lines ≡ []
 empty_lines ways zero first i = refl
 empty_lines ways (suc n) first zero = refl
 empty_lines ways (suc n) first (suc i) = empty_lines ways n (first + ways) i

@@ -7,5 +7,8 @@ pub mod Shown
 pub mod Changes
 pub mod Follows
 pub mod Victims
+pub mod Slots
+pub mod Flags
+pub mod Counts
 pub mod Made
 pub mod Lowest

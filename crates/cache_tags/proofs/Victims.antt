@@ -7,9 +7,8 @@ use Rattle.cache_tags.proofs.Changes.{IsGood}
 use Rattle.cache_tags.proofs.Follows.{Follows, follows, off_set, presence, set_for, at_set, same_set_for}
 use Rattle.cache_tags.proofs.Lines.{Distinct, clash, has-append, has-new, has-without, last-absent, same_is, same_self, same_turned}
 use Rattle.cache_tags.proofs.Shown.{found, is_of, key_there, keys, keys-remove, keys-split, missed}
-use Rattle.cache_tags.specs.CacheRule.{Cleaned, Past, Removed, Size, Stored, Touched, has_line, is_there, is_uncrowded, leaving, since_after, since_touch, touched_lines, victim, with_new, without_line}
+use Rattle.cache_tags.specs.CacheRule.{Cleaned, Past, Removed, Size, Stored, Touched, has_line, is_hit, is_there, is_uncrowded, leaving, since_after, since_touch, touched_lines, victim, with_new, without_line}
 use Rattle.cache_tags.specs.Following.{after_past, along, held_key, is_hit_answer, line_of, lists_after, pid_of, slot_for, touch_for, victim_in, victim_key}
-use Rattle.cache_tags.specs.Laws.{ListsFollowTheRule}
 use Rattle.cache_tags.specs.Lists.{brought, coming, coming_to, free_entry, line_at, oldest, younger}
 use Rattle.cache_tags.specs.Sets.{SetLines, Tagged}
 use Rattle.cache_tags.specs.Tags.{after_touch, answer_to_touch, no_lines, place_of, slot_at, touch_of, victim_of}
@@ -183,8 +182,14 @@ hit_is : (x : Key) (t : Tagged) (o : Option ℕ) → position (is_of x) (set_for
 hit_is x t (Some p) e = let f = found x (set_for x t).lines p e in sym f.has
 hit_is x t None e = sym (missed x (set_for x t).lines e)
 
-pub lists-follow : ListsFollowTheRule
-lists-follow c past x some ways =
+-- presence, hits and victims
+pub record TouchesFollow (c : Size) (past : List Past) (x : Key) : Type 0 where
+  pub presence : is_some (slot_for x (lists_after c past)) ≡ is_there c past x
+  pub hits : is_hit_answer (touch_for x (lists_after c past)) ≡ is_hit c past x
+  pub victims : victim_in (touch_for x (lists_after c past)) ≡ victim c past x
+
+pub touches-follow : (c : Size) (past : List Past) (x : Key) → 0 < c.sets → 0 < c.ways → TouchesFollow c past x
+touches-follow c past x some ways =
     let t : Tagged = lists_after c past in
     let leaves : Leaves c x t (lists_after c (past ++ Touched x ∷ [])) (victim_in (touch_for x t)) =
     subst (λ (t' : Tagged). Leaves c x t t' (victim_in (touch_for x t))) (sym (along-last past (Touched x) (no_lines c.sets c.ways))) (leaves_by c t x (λ y. since_touch y past None) (follows c past some ways) some (place_of (pid_of x) (line_of x) t) refl) in

@@ -1,9 +1,9 @@
 -- What the lists are after a past, and what they say of a line.
-use Rattle.std.specs.Prelude.{[], ◌∷◌, Bool, List, None, Option, Some, false, true, ℕ}
+use Rattle.std.specs.Prelude.{◌+◌, if◌then◌else◌, [], ◌∷◌, Bool, List, None, Option, Some, false, true, ℕ}
 use Rattle.lego_base.specs.Keys.{Key, key_at}
 use Rattle.lego_base.specs.declared.ids.LineNo.{LineNo}
 use Rattle.lego_base.specs.declared.ids.Pid.{Pid}
-use Rattle.cache_tags.specs.CacheRule.{Cleaned, Past, Removed, Size, Stored, Touched}
+use Rattle.cache_tags.specs.CacheRule.{Cleaned, Past, Removed, Size, Stored, Tally, Touched}
 use Rattle.cache_tags.specs.Sets.{Tagged}
 use Rattle.cache_tags.specs.Tags.{marked, no_lines, removed, slot_of_line, touch_of, touched}
 use Rattle.cache_tags.specs.declared.set.Held.{Held}
@@ -58,3 +58,22 @@ is_hit_answer (Miss slot victim) = false
 
 abbrev pub touch_for : Key → Tagged → Touch
 touch_for x t = touch_of (pid_of x) (line_of x) t
+
+-- COUNTS by the answers to touches, and by marks
+abbrev pub counted_victim : Option Victim → Tally → Tally
+counted_victim None n = n
+counted_victim (Some v) n = record n { evictions = n.evictions + 1; writebacks = if v.dirty then n.writebacks + 1 else n.writebacks }
+
+abbrev pub counted_touch : Touch → Tally → Tally
+counted_touch (Hit slot) n = record n { hits = n.hits + 1 }
+counted_touch (Miss slot victim) n = counted_victim victim (record n { misses = n.misses + 1 })
+
+abbrev pub counted : Past → Tagged → Tally → Tally
+counted (Touched x) t n = counted_touch (touch_for x t) n
+counted (Removed x) t n = n
+counted (Stored x) t n = n
+counted (Cleaned x) t n = record n { writebacks = n.writebacks + 1 }
+
+abbrev pub counted_along : List Past → Tagged → Tally → Tally
+counted_along [] t n = n
+counted_along (e ∷ past) t n = counted_along past (after_past e t) (counted e t n)

@@ -13,7 +13,7 @@ pub fn a_removed_line_is_gone()
 {}
 
 /// After every list of touches, marks and removals, the lists of a cache are the rule: which lines are there, which touches
-/// hit, and which line a touch makes leave.
+/// hit, which line a touch makes leave, which lines are dirty, and the counts.
 pub fn lists_follow_the_rule()
     ensures { ListsFollowTheRule }
 {}

@@ -1,4 +1,4 @@
-use Rattle.cache_tags.proofs.Victims.{lists-follow}
+use Rattle.cache_tags.proofs.Counts.{lists-follow}
 use Rattle.cache_tags.proofs.laws.lists_follow_the_rule.Goals as goal
 
 pub returns : goal.returns
