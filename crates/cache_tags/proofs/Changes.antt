@@ -1,16 +1,15 @@
 -- What a touch and a removal make of a line's set.
-use Rattle.std.proofs.Common.{◌≡◌, ◌⊎◌, ◌+◌, ◌%◌, ◌<◌, ◌≤◌, ◌&&◌, ◌||◌, ◌++◌, [], ◌∷◌, ◌∙◌, ℕ, Bool, List, None, Option, Some, ap, arith, false, inl, inr, length, length-append, not, refl, subst, suc, sym, true}
-use Rattle.std.proofs.lemmas.Bool.{eq-eqb}
+use Rattle.std.proofs.Common.{◌≡◌, ◌+◌, ◌%◌, ◌<◌, ◌≤◌, ◌&&◌, ◌||◌, ◌++◌, [], ◌∷◌, ◌∙◌, ℕ, Bool, List, Some, ap, arith, false, length, length-append, not, refl, subst, suc, sym, true}
 use Rattle.std.proofs.lemmas.List.{length-map}
 use Rattle.std.proofs.lemmas.List.Edits.{length-remove}
-use Rattle.std.specs.List.{position, remove}
+use Rattle.std.specs.List.{remove}
 use Rattle.lego_base.specs.Keys.{Key, same_key}
 use Rattle.cache_tags.proofs.Crowds.{Tied, removal, touch_full, touch_hit, touch_room, touched_itself}
 use Rattle.cache_tags.proofs.Lines.{Distinct, distinct-front, distinct-without, has-append, has-without, same_is, same_self, same_turned}
-use Rattle.cache_tags.proofs.Shown.{IsFound, found, key_there, keys, keys-remove, keys-split, missed, is_of, split-oldest}
+use Rattle.cache_tags.proofs.Shown.{IsFound, key_there, keys, keys-remove, keys-split, split-oldest}
 use Rattle.cache_tags.specs.CacheRule.{Past, Removed, Size, Touched, has_line, same_set, without_line}
 use Rattle.cache_tags.specs.Following.{held_key, line_of, pid_of}
-use Rattle.cache_tags.specs.Lists.{brought, coming_to, free_entry, line_at, oldest, released, younger}
+use Rattle.cache_tags.specs.Lists.{brought, coming_to, free_entry, oldest, released, younger}
 use Rattle.cache_tags.specs.Sets.{SetLines}
 use Rattle.cache_tags.specs.declared.set.Held.{Held}
 

@@ -1,5 +1,5 @@
 -- The lists follow the rule, counts included.
-use Rattle.std.proofs.Common.{◌≡◌, ◌+◌, ◌%◌, ◌<◌, ◌||◌, ◌++◌, [], ◌∷◌, ◌∙◌, ℕ, Bool, List, None, Option, Some, ap, cond, false, get_or, refl, subst, sym, true}
+use Rattle.std.proofs.Common.{◌≡◌, ◌+◌, ◌%◌, ◌<◌, ◌||◌, ◌++◌, [], ◌∷◌, ◌∙◌, ℕ, Bool, List, None, Option, Some, ap, cond, false, refl, subst, sym, true}
 use Rattle.std.proofs.lemmas.Bool.{cond-false, cond-true}
 use Rattle.std.specs.List.{position}
 use Rattle.lego_base.specs.Keys.{Key, same_key}
@@ -8,11 +8,11 @@ use Rattle.cache_tags.proofs.Follows.{Follows, follows, same_set_for, set_for}
 use Rattle.cache_tags.proofs.Lines.{Distinct, clash, has-append, same_is, same_self}
 use Rattle.cache_tags.proofs.Shown.{is_of, keys, keys-split}
 use Rattle.cache_tags.proofs.Slots.{found_slot, slot_in}
-use Rattle.cache_tags.proofs.Victims.{TouchesFollow, along-last, touches-follow}
+use Rattle.cache_tags.proofs.Victims.{along-last, touches-follow}
 use Rattle.cache_tags.specs.CacheRule.{Cleaned, Past, Removed, Size, Stored, Tally, Touched, evicted, has_line, is_dirty, is_hit, no_tally, since_touch, tally_after, tally_along, victim}
-use Rattle.cache_tags.specs.Following.{after_past, counted, counted_along, counted_touch, counted_victim, held_key, is_hit_answer, line_of, lists_after, pid_of, slot_for, touch_for, victim_in, victim_key}
+use Rattle.cache_tags.specs.Following.{counted, counted_along, counted_touch, counted_victim, held_key, is_hit_answer, line_of, lists_after, pid_of, victim_in, victim_key}
 use Rattle.cache_tags.specs.Laws.{ListsFollowTheRule}
-use Rattle.cache_tags.specs.Lists.{coming, coming_to, line_at, oldest}
+use Rattle.cache_tags.specs.Lists.{coming, coming_to, oldest}
 use Rattle.cache_tags.specs.Sets.{SetLines, Tagged}
 use Rattle.cache_tags.specs.Tags.{answer_to_touch, is_dirty_slot, no_lines, place_of, slot_at, victim_of}
 use Rattle.cache_tags.specs.declared.set.Held.{Held}

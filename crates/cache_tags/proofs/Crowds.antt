@@ -1,5 +1,5 @@
 -- The crowd of a line that is there: the lines before it in its set's list.
-use Rattle.std.proofs.Common.{◌≡◌, ◌⊎◌, ◌+◌, ◌<◌, ◌≤◌, ◌&&◌, ◌||◌, ◌++◌, [], ◌∷◌, ◌∙◌, ℕ, Bool, List, None, Option, Some, ap, arith, cond, false, inl, inr, leb, length, length-append, not, refl, suc, subst, sym, true}
+use Rattle.std.proofs.Common.{◌≡◌, ◌⊎◌, ◌+◌, ◌<◌, ◌≤◌, ◌&&◌, ◌||◌, ◌++◌, [], ◌∷◌, ◌∙◌, Bool, List, None, Option, Some, ap, arith, false, inl, inr, leb, length, length-append, not, refl, suc, subst, sym, true}
 use Rattle.std.proofs.lemmas.Bool.{cond-false, cond-true, le-leb, lt-leb}
 use Rattle.lego_base.specs.Keys.{Key, same_key}
 use Rattle.cache_tags.proofs.Lines.{Distinct, before, before-front, before-last, before-short, before-without, distinct-before, distinct-front, distinct-new, distinct-without, has-append, has-new, has-without, same-length, same_is, same_self, same_turned}

@@ -1,18 +1,18 @@
 -- Dirty flags are those of the rule.
-use Rattle.std.proofs.Common.{◌≡◌, ◌≢◌, ◌+◌, ◌*◌, ◌%◌, ◌<◌, ◌≤◌, ◌&&◌, ◌||◌, ◌++◌, [], ◌∷◌, ◌∙◌, ℕ, Bool, List, None, Option, Some, ap, append-nil, append_assoc, arith, cond, false, get_or, inl, inr, length, not, refl, replicate, set, subst, suc, sym, true, zero}
+use Rattle.std.proofs.Common.{◌≡◌, ◌*◌, ◌%◌, ◌<◌, ◌&&◌, ◌||◌, ◌++◌, [], ◌∷◌, ◌∙◌, ℕ, Bool, List, None, Option, Some, ap, append-nil, append_assoc, arith, cond, false, get_or, inl, inr, length, not, refl, set, subst, suc, sym, true, zero}
 use Rattle.std.proofs.lemmas.Bool.{cases_eq, cond-false, cond-true}
 use Rattle.std.proofs.lemmas.List.{get_or-set_other, get_or-set_same, length-replicate, length-set}
 use Rattle.std.specs.List.{position}
 use Rattle.lego_base.specs.Keys.{Key, same_key}
 use Rattle.cache_tags.proofs.Changes.{IsGood, found_drops}
 use Rattle.cache_tags.proofs.Follows.{Follows, at_set, empty_lines, follows, off_set, presence, same_set_for, set_for}
-use Rattle.cache_tags.proofs.Lines.{Distinct, clash, has-append, same_is, same_self, same_turned}
-use Rattle.cache_tags.proofs.Shown.{IsFound, found, is_of, keys, keys-split, missed}
+use Rattle.cache_tags.proofs.Lines.{clash, same_is, same_self, same_turned}
+use Rattle.cache_tags.proofs.Shown.{IsFound, found, is_of, keys, missed}
 use Rattle.cache_tags.proofs.Slots.{Sound, apart, below, found_slot, in_empty_sets, in_set, in_set-brought, in_set-coming, in_set-released, in_sets, in_sets-set, slot-remove, slot-younger, slot_in}
 use Rattle.cache_tags.proofs.Victims.{along-last}
 use Rattle.cache_tags.specs.CacheRule.{Cleaned, Past, Removed, Size, Stored, Touched, dirty_after, dirty_along, has_line, is_dirty, is_there, since_touch}
-use Rattle.cache_tags.specs.Following.{after_past, along, held_key, line_of, lists_after, marked_where, pid_of, slot_for}
-use Rattle.cache_tags.specs.Lists.{brought, coming, coming_to, empty_set, held, line_at, oldest, released, younger}
+use Rattle.cache_tags.specs.Following.{after_past, held_key, line_of, lists_after, marked_where, pid_of}
+use Rattle.cache_tags.specs.Lists.{brought, coming, coming_to, empty_set, line_at, oldest, released, younger}
 use Rattle.cache_tags.specs.Sets.{SetLines, Tagged}
 use Rattle.cache_tags.specs.Tags.{after_removal, after_touch, empty_sets, no_lines, place_of, slot_at}
 use Rattle.cache_tags.specs.declared.set.Held.{Held}

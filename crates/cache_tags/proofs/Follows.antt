@@ -1,16 +1,16 @@
 -- The lists follow the rule: a line is in its set's list just where it is there by the whole past.
-use Rattle.std.proofs.Common.{◌≡◌, ◌⊎◌, ◌+◌, ◌%◌, ◌<◌, ◌≤◌, ◌&&◌, ◌++◌, [], ◌∷◌, ◌∙◌, ℕ, Bool, List, None, Option, Some, ap, append-nil, append_assoc, arith, cond, eqb, false, get_or, inl, inr, length, not, refl, set, subst, suc, sym, true, zero}
-use Rattle.std.proofs.lemmas.Bool.{cases_eq, cond-false, cond-true, eq-eqb, ne_eqb}
+use Rattle.std.proofs.Common.{◌≡◌, ◌+◌, ◌%◌, ◌<◌, ◌≤◌, ◌&&◌, ◌++◌, [], ◌∷◌, ◌∙◌, ℕ, Bool, List, None, Option, Some, ap, arith, cond, false, get_or, inl, inr, length, not, refl, set, subst, suc, sym, true, zero}
+use Rattle.std.proofs.lemmas.Bool.{cases_eq, cond-false, eq-eqb, ne_eqb}
 use Rattle.std.proofs.lemmas.List.{get_or-set_other, get_or-set_same, length-set}
 use native.Mathlib.Nat.{mod-lt}
 use Rattle.std.specs.List.{position, range_with_len}
 use Rattle.lego_base.specs.Keys.{Key, same_key}
 use Rattle.cache_tags.proofs.Changes.{Drops, IsGood, Takes, found_drops, hit_takes, long, miss_takes}
-use Rattle.cache_tags.proofs.Crowds.{Tied, Uncrowded, crowd_along, tied-presence, unchanged}
+use Rattle.cache_tags.proofs.Crowds.{Tied, crowd_along, tied-presence, unchanged}
 use Rattle.cache_tags.proofs.Made.{length-empty_sets}
 use Rattle.cache_tags.proofs.Lines.{before, before-in, clash, same_is, without-absent}
 use Rattle.cache_tags.proofs.Shown.{found, is_of, keys, missed}
-use Rattle.cache_tags.specs.CacheRule.{Cleaned, Past, Removed, Size, Stored, Touched, crowd_after, has_line, is_there, same_set, since_after, since_touch, with_new, without_line}
+use Rattle.cache_tags.specs.CacheRule.{Cleaned, Past, Removed, Size, Stored, Touched, crowd_after, has_line, is_there, same_set, since_after, since_touch, with_new}
 use Rattle.cache_tags.specs.Following.{after_past, along, line_of, lists_after, marked_where, pid_of, slot_for}
 use Rattle.cache_tags.specs.Lists.{brought, coming, empty_set, released}
 use Rattle.cache_tags.specs.Sets.{SetLines, Tagged}

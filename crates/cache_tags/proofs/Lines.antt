@@ -1,6 +1,6 @@
 -- Lists of distinct lines.
-use Rattle.std.proofs.Common.{◌≡◌, ◌+◌, ◌<◌, ◌≤◌, ◌&&◌, ◌||◌, ◌++◌, [], ◌∷◌, ◌∙◌, ℕ, Bool, List, ap, arith, cond, eqb, false, length, not, refl, suc, subst, sym, true}
-use Rattle.std.proofs.lemmas.Bool.{and_parts, cond-false, cond-true, eq-eqb, eqb-true, true_from_ne_false}
+use Rattle.std.proofs.Common.{◌≡◌, ◌<◌, ◌&&◌, ◌||◌, ◌++◌, [], ◌∷◌, ◌∙◌, Bool, List, ap, arith, cond, eqb, false, length, not, refl, suc, sym, true}
+use Rattle.std.proofs.lemmas.Bool.{and_parts, cond-false, cond-true, eq-eqb, eqb-true}
 use Rattle.lego_base.specs.Keys.{Key, same_key}
 use Rattle.cache_tags.specs.CacheRule.{has_line, with_new, without_line}
 

@@ -9,7 +9,6 @@ use Rattle.std.specs.List.{range_with_len}
 use Rattle.cache_tags.specs.Lists.{empty_set, free_entry}
 use Rattle.cache_tags.specs.Sets.{SetLines, slot_of}
 use Rattle.cache_tags.specs.Tags.{empty_sets}
-use Rattle.cache_tags.specs.declared.set.Held.{Held}
 
 range_more : (a n : ℕ) → range_with_len a (suc n) ≡ range_with_len a n ++ (a + n) ∷ []
 range_more a zero = let e : a ≡ a + 0 = omega arith in ap (λ (k : ℕ). k ∷ []) e

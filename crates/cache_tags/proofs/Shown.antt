@@ -1,12 +1,12 @@
 -- A set's lines as keys, and what a touch and a removal make of them.
-use Rattle.std.proofs.Common.{◌≡◌, ◌+◌, ◌<◌, ◌≤◌, ◌||◌, ◌++◌, [], ◌∷◌, ◌∙◌, ℕ, Bool, List, None, Option, Some, ap, arith, cond, false, get_or, length, ltb, map, not, refl, suc, sym, true, zero}
+use Rattle.std.proofs.Common.{◌≡◌, ◌<◌, ◌≤◌, ◌||◌, ◌++◌, [], ◌∷◌, ◌∙◌, ℕ, Bool, List, None, Option, Some, ap, arith, cond, false, get_or, length, ltb, map, refl, suc, sym, true, zero}
 use Rattle.std.proofs.lemmas.Bool.{cond-false, cond-true, ltb-false}
 use Rattle.std.proofs.lemmas.List.{map-append}
 use Rattle.std.proofs.lemmas.List.Quantifiers.{position-Some}
 use Rattle.std.proofs.lemmas.List.Sums.{fails_before_first}
 use Rattle.std.specs.List.{position, position_or_len, remove}
 use Rattle.lego_base.specs.Keys.{Key, same_key}
-use Rattle.cache_tags.proofs.Lines.{Distinct, clash, same_is, same_self, without-absent}
+use Rattle.cache_tags.proofs.Lines.{Distinct, clash, same_is, without-absent}
 use Rattle.cache_tags.specs.CacheRule.{has_line, without_line}
 use Rattle.cache_tags.specs.Following.{held_key, line_of, pid_of}
 use Rattle.cache_tags.specs.Lists.{free_entry, is_line, line_at, oldest, younger}

@@ -1,12 +1,12 @@
 -- No two lines have one slot: each slot is counted once over all sets.
-use Rattle.std.proofs.Common.{◌≡◌, ◌≢◌, ◌+◌, ◌*◌, ◌%◌, ◌<◌, ◌≤◌, [], ◌∷◌, ◌∙◌, ℕ, Bool, List, None, Option, Some, ap, arith, cond, eqb, false, get_or, inl, inr, length, refl, set, subst, suc, sym, true, zero}
+use Rattle.std.proofs.Common.{◌≡◌, ◌≢◌, ◌+◌, ◌*◌, ◌%◌, ◌<◌, ◌≤◌, [], ◌∷◌, ◌∙◌, ℕ, Bool, List, None, Option, Some, ap, arith, cond, eqb, false, get_or, inl, inr, length, refl, set, suc, sym, true, zero}
 use Rattle.std.proofs.lemmas.Bool.{cases_eq, cond-false, cond-true, eq-eqb, eqb-true}
 use Rattle.std.proofs.lemmas.List.Quantifiers.{position-Some}
 use Rattle.std.specs.List.{position, range_with_len, remove}
 use Rattle.lego_base.specs.Keys.{Key, same_key}
 use Rattle.cache_tags.proofs.Follows.{set_for}
-use Rattle.cache_tags.proofs.Lines.{clash, same_is, same_self}
-use Rattle.cache_tags.proofs.Shown.{IsFound, found, is_of}
+use Rattle.cache_tags.proofs.Lines.{clash, same_is}
+use Rattle.cache_tags.proofs.Shown.{is_of}
 use Rattle.cache_tags.specs.Following.{held_key, line_of, pid_of}
 use Rattle.cache_tags.specs.Lists.{brought, coming_to, empty_set, free_entry, line_at, oldest, released, younger}
 use Rattle.cache_tags.specs.Sets.{SetLines, Tagged}

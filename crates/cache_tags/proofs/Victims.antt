@@ -1,6 +1,6 @@
 -- Hits and victims are those of the rule.
-use Rattle.std.proofs.Common.{◌≡◌, ◌+◌, ◌%◌, ◌<◌, ◌&&◌, ◌||◌, ◌++◌, [], ◌∷◌, ◌∙◌, ℕ, Bool, List, None, Option, Some, ap, arith, cond, false, inl, inr, is_some, length, not, refl, set, subst, sym, true}
-use Rattle.std.proofs.lemmas.Bool.{cases_eq, cond-false, cond-true}
+use Rattle.std.proofs.Common.{◌≡◌, ◌%◌, ◌<◌, ◌&&◌, ◌||◌, ◌++◌, [], ◌∷◌, ◌∙◌, ℕ, Bool, List, None, Option, Some, ap, cond, false, inl, inr, is_some, length, not, refl, set, subst, sym, true}
+use Rattle.std.proofs.lemmas.Bool.{cases_eq, cond-false}
 use Rattle.std.specs.List.{position}
 use Rattle.lego_base.specs.Keys.{Key, same_key}
 use Rattle.cache_tags.proofs.Changes.{IsGood}
@@ -9,9 +9,9 @@ use Rattle.cache_tags.proofs.Lines.{Distinct, clash, has-append, has-new, has-wi
 use Rattle.cache_tags.proofs.Shown.{found, is_of, key_there, keys, keys-remove, keys-split, missed}
 use Rattle.cache_tags.specs.CacheRule.{Cleaned, Past, Removed, Size, Stored, Touched, has_line, is_hit, is_there, is_uncrowded, leaving, since_after, since_touch, touched_lines, victim, with_new, without_line}
 use Rattle.cache_tags.specs.Following.{after_past, along, held_key, is_hit_answer, line_of, lists_after, pid_of, slot_for, touch_for, victim_in, victim_key}
-use Rattle.cache_tags.specs.Lists.{brought, coming, coming_to, free_entry, line_at, oldest, younger}
+use Rattle.cache_tags.specs.Lists.{brought, coming, coming_to, free_entry, oldest, younger}
 use Rattle.cache_tags.specs.Sets.{SetLines, Tagged}
-use Rattle.cache_tags.specs.Tags.{after_touch, answer_to_touch, no_lines, place_of, slot_at, touch_of, victim_of}
+use Rattle.cache_tags.specs.Tags.{after_touch, answer_to_touch, no_lines, place_of, slot_at, victim_of}
 use Rattle.cache_tags.specs.declared.set.Held.{Held}
 
 -- PRESENCE, by the slot

@@ -1,5 +1,5 @@
 -- The entries of a set: those of its lines first, then those that are free.
-use Rattle.std.proofs.Common.{◌≡◌, ◌+◌, ◌-◌, ◌<◌, ◌≤◌, ◌++◌, [], ◌∷◌, ◌∙◌, ℕ, List, Some, ap, append-nil, arith, drop, get_or, length, map, refl, subst, suc, sym, take}
+use Rattle.std.proofs.Common.{◌≡◌, ◌+◌, ◌-◌, ◌<◌, ◌≤◌, ◌++◌, [], ◌∷◌, ◌∙◌, ℕ, List, Some, ap, append-nil, arith, drop, get_or, length, map, refl, subst, sym, take}
 use Rattle.std.proofs.lemmas.List.{drop_at, get_or_append_left, get_or_default, take-append-drop, take_at}
 use Rattle.std.proofs.lemmas.List.Edits.{length-remove, remove-append_left}
 use Rattle.std.proofs.lemmas.List.{drop_more, drop_all, take_all, length-take-le}

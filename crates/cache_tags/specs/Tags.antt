@@ -3,7 +3,7 @@ use Rattle.std.specs.List.{position}
 use Rattle.std.specs.Prelude.{◌+◌, ◌*◌, ◌%◌, ◌&&◌, if◌then◌else◌, [], ◌∷◌, ℕ, Bool, List, None, Option, Some, false, length, min, nat_le, nat_lt, replicate, slice_index_or, slice_set, suc, zero, ◌==◌}
 use Rattle.lego_base.specs.declared.ids.LineNo.{LineNo}
 use Rattle.lego_base.specs.declared.ids.Pid.{Pid}
-use Rattle.cache_tags.specs.Lists.{Coming, brought, coming, empty_set, is_line, line_at, released}
+use Rattle.cache_tags.specs.Lists.{brought, coming, empty_set, is_line, line_at, released}
 use Rattle.cache_tags.specs.Sets.{SetLines, Tagged}
 use Rattle.cache_tags.specs.declared.set.Held.{Held}
 use Rattle.cache_tags.specs.declared.tags.Touch.{Touch}

@@ -1,4 +1,4 @@
-use Rattle.std.proofs.Common.{[], ◌∷◌, ◌∙◌, List, ap, map, ℕ}
+use Rattle.std.proofs.Common.{[], ◌∙◌, List, ap, map, ℕ}
 use Rattle.std.specs.List.{range_with_len}
 use Rattle.cache_tags.specs.Sets.{SetLines, slot_of}
 use Rattle.cache_tags.specs.declared.set.Held.{Held}

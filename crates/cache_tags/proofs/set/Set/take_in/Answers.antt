@@ -1,4 +1,4 @@
-use Rattle.std.proofs.Common.{◌≡◌, ◌∷◌, ◌∙◌, List, ap, arith, subst}
+use Rattle.std.proofs.Common.{◌∷◌, ◌∙◌, List, ap, arith, subst}
 use Rattle.cache_tags.specs.Lists.{held}
 use Rattle.cache_tags.specs.Sets.{SetLines}
 use Rattle.cache_tags.specs.declared.set.Held.{Held}
