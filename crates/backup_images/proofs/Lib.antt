@@ -3,3 +3,4 @@ pub mod Rising
 pub mod Places
 pub mod Groups
 pub mod Filters
+pub mod Weights

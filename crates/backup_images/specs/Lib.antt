@@ -1,2 +1,3 @@
 pub mod Segments
 pub mod Places
+pub mod Laws

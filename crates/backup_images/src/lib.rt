@@ -6,6 +6,7 @@
 #![tactic(auto)]
 
 mod images;
+mod laws;
 mod page;
 mod pages;
 mod play;
@@ -13,6 +14,7 @@ mod segment;
 mod weight;
 
 pub use images::Images;
+pub use laws::{compacted_lists_are_light, compacted_lists_keep_their_images};
 pub use segment::Seg;
 
 #[cfg(test)]

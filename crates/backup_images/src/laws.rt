@@ -1,0 +1,13 @@
+//! What the definitions of segments mean.
+
+ghost use Rattle.backup_images.specs.Laws.{CompactedIsLight, CompactedKeepsImages};
+
+/// A list that was compacted weighs at most 8192 bytes an image and a MiB, where no image has more bytes than a page.
+pub fn compacted_lists_are_light()
+    ensures { CompactedIsLight }
+{}
+
+/// A list that was compacted has the images that it had.
+pub fn compacted_lists_keep_their_images()
+    ensures { CompactedKeepsImages }
+{}
