@@ -8,12 +8,14 @@ use std::test::Fail;
 #[test]
 fn a_crash_forgets_the_answer(rt: HostRuntime) -> Result<(), Fail> {
     let memory = Place::Memory(MemId(1));
-    let mut op = Op::new(rt.alloc(), OpNo(7), &[memory, Place::Storage])?;
+    let targets = [memory, Place::Storage];
+    let mut op = Op::new(rt.alloc(), OpNo(7), &targets)?;
+    assert_eq!(rt; op.number().0, 7);
     op.answered(memory);
     op.crashed(memory);
     op.answered(Place::Storage);
-    let open = !op.complete();
+    assert!(rt; !op.complete());
     op.answered(memory);
-    assert!(rt; open && op.complete() && op.number().0 == 7);
+    assert!(rt; op.complete());
     Ok(())
 }

@@ -1,4 +1,4 @@
-//! Files with names, in a store with a limit of blocks.
+//! Files with names, in a store of so many blocks.
 
 ghost use Rattle.std.specs.Prelude.{◌≡◌, ◌+◌, ◌-◌, ◌^◌, ◌≤◌, ◌<◌, length, true, IfOk, MatchOption};
 ghost use Rattle.lego_base.specs.Files.{file_bytes, is_file, named, with_file_bytes};

@@ -17,5 +17,4 @@ ChoicesFollowTheList = (deliveries : List ℕ) (number : ℕ) (pending : List Me
 
 -- A message of an operation is pending exactly where their count isn't 0.
 abbrev pub CountsTellWhatIsPending : Type 0
-CountsTellWhatIsPending = (number : ℕ) (pending : List Message) →
-    is_pending number pending ≡ nat_lt 0 (count_by (λ (m : Message). m.op.0 == number) pending)
+CountsTellWhatIsPending = (number : ℕ) (pending : List Message) → is_pending number pending ≡ nat_lt 0 (count_by (λ (m : Message). m.op.0 == number) pending)
