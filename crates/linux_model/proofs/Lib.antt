@@ -1,0 +1,5 @@
+pub mod Folds
+pub mod Flat
+pub mod Growth
+pub mod Looking
+pub mod Loading

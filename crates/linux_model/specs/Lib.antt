@@ -1,0 +1,17 @@
+pub mod Limits
+pub mod State
+pub mod Processes
+pub mod Effects
+pub mod Instructions
+pub mod Called
+pub mod Buffers
+pub mod Paths
+pub mod Descriptors
+pub mod FileCalls
+pub mod SpaceCalls
+pub mod Loading
+pub mod ProcessCalls
+pub mod Calls
+pub mod Turns
+pub mod Boot
+pub mod Laws
