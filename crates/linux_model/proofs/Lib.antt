@@ -3,3 +3,4 @@ pub mod Flat
 pub mod Growth
 pub mod Looking
 pub mod Loading
+pub mod rows
