@@ -1,5 +1,5 @@
 -- Slots: a table of things by number, from 0. A number that was freed is the lowest free one again.
-use Rattle.std.specs.Prelude.{ℕ, zero, suc, ◌+◌, Bool, true, false, ◌||◌, if◌then◌else◌, List, [], ◌∷◌, ◌++◌, Option, Some, None, is_some, length, slice_get, slice_set, nat_lt, unwrap_or}
+use Rattle.std.specs.Prelude.{ℕ, ◌+◌, Bool, false, ◌||◌, if◌then◌else◌, List, [], ◌∷◌, Option, Some, None, length, slice_get, slice_set, nat_lt, unwrap_or}
 
 -- what a slot holds; nothing past the end of the table
 abbrev pub slot : {X : Type 0} → List (Option X) → ℕ → Option X

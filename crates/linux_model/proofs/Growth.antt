@@ -10,7 +10,7 @@ use Rattle.linux_model.specs.Limits.{FILES}
 use Rattle.linux_model.specs.State.{Kernel, Process, Written, nothing, on, joined}
 use Rattle.linux_model.specs.Processes.{process, is_live, is_referred, has_reader, has_writer, fds_of}
 use Rattle.linux_model.specs.Effects.{Effect, MakesFile, FreesFile, Closes, Puts, Forks, Dies, apply, applies, desc_at, pipe_ends, object_ends, description_ends, let_go, forked}
-use Rattle.linux_model.specs.Turns.{Schedule, turn, flat, ready, ready_in, is_ready, whose, turn_of, is_over}
+use Rattle.linux_model.specs.Turns.{Schedule, turn, flat, ready, ready_in, whose, turn_of, is_over}
 use Rattle.linux_model.specs.Calls.{still_waits}
 use Rattle.linux_model.specs.Laws.{Grows}
 

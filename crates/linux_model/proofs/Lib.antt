@@ -3,4 +3,5 @@ pub mod Flat
 pub mod Growth
 pub mod Looking
 pub mod Loading
+pub mod Booting
 pub mod rows

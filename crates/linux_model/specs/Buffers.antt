@@ -1,6 +1,6 @@
 -- Buffers of a process: lists of pieces, of which read(2) and write(2) have one. The check of a buffer comes before any
 -- byte is copied, and each piece is a copy of its own.
-use Rattle.std.specs.Prelude.{ℕ, zero, suc, ◌+◌, ◌-◌, ◌*◌, ◌&&◌, Bool, true, not, if◌then◌else◌, min, List, [], ◌∷◌, ◌++◌, take, drop, sum_by}
+use Rattle.std.specs.Prelude.{ℕ, zero, suc, ◌+◌, ◌-◌, ◌&&◌, Bool, true, not, if◌then◌else◌, min, List, [], ◌∷◌, ◌++◌, take, drop, sum_by}
 use Rattle.lego_base.specs.declared.sizes.TheConstants.{LONGEST_FILE}
 use Rattle.lego_base.specs.Space.{Space, permits, bytes_at, number_of}
 use Rattle.linux_model.specs.Limits.{EFAULT}

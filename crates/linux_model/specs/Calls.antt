@@ -1,6 +1,6 @@
 -- The system calls: the number is in register 17 (a7), arguments are in registers 10 to 15 (a0 to a5), and the answer
 -- goes to register 10, as in syscall(2) for RISC-V.
-use Rattle.std.specs.Prelude.{ℕ, ◌==◌, ◌&&◌, not, Bool, true, false, if◌then◌else◌, nat_lt, nat_le, List, [], ◌∷◌, ◌++◌, length, Option, Some, None, is_none}
+use Rattle.std.specs.Prelude.{ℕ, ◌==◌, ◌&&◌, Bool, false, if◌then◌else◌, nat_lt, nat_le, List, [], ◌∷◌, ◌++◌, length, Option, Some, None, is_none}
 use Rattle.rv64_step.specs.Meaning.{reg, with_reg, next_pc}
 use Rattle.kernel_objects.specs.declared.descriptor.Object.{Object}
 use Rattle.kernel_objects.specs.declared.descriptor.Object.TheVariants.{PipeRead, PipeWrite}

@@ -1,5 +1,5 @@
 -- Descriptors, and the calls that make, share and close them.
-use Rattle.std.specs.Prelude.{ℕ, ◌+◌, ◌-◌, ◌==◌, ◌&&◌, ◌||◌, not, Bool, true, false, if◌then◌else◌, nat_lt, nat_le, List, [], ◌∷◌, ◌++◌, length, Option, Some, None, option_and_then}
+use Rattle.std.specs.Prelude.{ℕ, ◌+◌, ◌-◌, ◌==◌, not, Bool, true, false, if◌then◌else◌, nat_lt, nat_le, List, [], ◌∷◌, ◌++◌, length, Option, Some, None, option_and_then}
 use Rattle.lego_base.specs.Space.{bytes_of}
 use Rattle.rv64_step.specs.Meaning.{reg}
 use Rattle.kernel_objects.specs.declared.descriptor.Description.{Description}
@@ -10,7 +10,7 @@ use Rattle.kernel_objects.specs.Slots.{slot, held, picks, lowest_free, next_slot
 use Rattle.linux_model.specs.Limits.{EBADF, EINVAL, EMFILE, ENFILE, O_CLOEXEC, O_WRONLY, DESCRIPTORS, DESCRIPTIONS, is_cloexec_alone, mode_of}
 use Rattle.linux_model.specs.State.{Kernel, Process}
 use Rattle.linux_model.specs.Processes.{process, has_file}
-use Rattle.linux_model.specs.Effects.{Effect, Writes, FreesFile, Opens, Shares, Closes, MakesPipe, CopyOut, apply, applies, desc_at}
+use Rattle.linux_model.specs.Effects.{Effect, Writes, FreesFile, Opens, Shares, Closes, MakesPipe, CopyOut, apply, applies}
 use Rattle.linux_model.specs.Called.{Called, Gives, first, given}
 use Rattle.linux_model.specs.Buffers.{to_write, one_piece, where_good}
 

@@ -30,7 +30,6 @@ pub data Kind : Type 0 where
 pub data Effect : Type 0 where
   -- a turn of this number begins, of this process; turn 0, of no process, is booting
   Begins : ℕ → ℕ → Effect
-
   -- SPACES
   -- bytes that a process read at an address
   Reads : Kind → ℕ → ℕ → List ℕ → Effect
@@ -53,7 +52,6 @@ pub data Effect : Type 0 where
   Copies : ℕ → ℕ → Effect
   -- the space of a process goes
   Drops : ℕ → Effect
-
   -- FILES
   LooksUp : List ℕ → Effect
   -- a new file under a name that none has, unless there are too many files
@@ -66,7 +64,6 @@ pub data Effect : Type 0 where
   ReadsFile : ℕ → ℕ → ℕ → Effect
   WritesFile : ℕ → ℕ → List ℕ → Effect
   CutsFile : ℕ → ℕ → Effect
-
   -- DESCRIPTORS AND PIPES
   -- a new description, at offset 0, of an object with flags, for a free descriptor; it may be closed by execve(2)
   Opens : ℕ → ℕ → Object → ℕ → Bool → Effect
@@ -82,7 +79,6 @@ pub data Effect : Type 0 where
   Takes : ℕ → Effect
   -- bytes for standard output or standard error
   Puts : Stream → List ℕ → Effect
-
   -- PROCESSES
   -- the registers after an instruction, and those after a call
   Goes : ℕ → Cpu → Effect

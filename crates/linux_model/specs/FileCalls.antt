@@ -1,5 +1,5 @@
 -- The calls on files, pipes and streams, one row a call.
-use Rattle.std.specs.Prelude.{ℕ, ◌+◌, ◌-◌, ◌*◌, ◌^◌, ◌==◌, ◌&&◌, ◌||◌, not, Bool, true, false, if◌then◌else◌, nat_lt, nat_le, bit_and, List, [], ◌∷◌, ◌++◌, length, take, Option, Some, None, is_some, is_none}
+use Rattle.std.specs.Prelude.{ℕ, ◌+◌, ◌-◌, ◌*◌, ◌^◌, ◌==◌, ◌&&◌, ◌||◌, not, if◌then◌else◌, nat_lt, nat_le, bit_and, List, [], ◌∷◌, ◌++◌, length, take, Option, Some, None, is_some, is_none}
 use Rattle.lego_base.specs.declared.ids.FileNo.{FileNo}
 use Rattle.lego_base.specs.declared.sizes.TheConstants.{LONGEST_FILE}
 use Rattle.lego_base.specs.Files.{file_bytes}
@@ -12,8 +12,8 @@ use Rattle.kernel_objects.specs.declared.process.Waiting.{Waiting}
 use Rattle.kernel_objects.specs.Slots.{lowest_free}
 use Rattle.linux_model.specs.Limits.{ENOENT, EBADF, EEXIST, EISDIR, EINVAL, ENFILE, EMFILE, EFBIG, ENOSPC, ESPIPE, SIGPIPE, O_CREAT, O_EXCL, O_TRUNC, O_APPEND, O_CLOEXEC, OPEN_FLAGS, FILES, PIPE_BYTES, PIPE_BUF, VECTOR_PIECES, has, mode_of, is_negative}
 use Rattle.linux_model.specs.State.{Kernel, Process}
-use Rattle.linux_model.specs.Processes.{has_file, has_reader, has_writer}
-use Rattle.linux_model.specs.Effects.{Effect, Reads, MakesFile, Unlinks, FreesFile, AsksSize, ReadsFile, WritesFile, CutsFile, Opens, Seeks, PutsPipe, TakesPipe, Takes, Puts, CopyIn, pipe_bytes}
+use Rattle.linux_model.specs.Processes.{has_reader, has_writer}
+use Rattle.linux_model.specs.Effects.{Effect, Reads, MakesFile, Unlinks, AsksSize, ReadsFile, WritesFile, CutsFile, Opens, Seeks, PutsPipe, TakesPipe, Takes, Puts, CopyIn, pipe_bytes}
 use Rattle.linux_model.specs.Called.{Called, Gives, Waits, Death, says, behind, first, given}
 use Rattle.linux_model.specs.Buffers.{Piece, one_piece, counted, total, part, where_good, bytes_in, copies_in, copies_out, pieces_of, to_read, to_write}
 use Rattle.linux_model.specs.Paths.{Found, Root, Named, at_path}

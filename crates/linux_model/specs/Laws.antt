@@ -1,14 +1,15 @@
 -- What a reader may ask of the flat run.
-use Rattle.std.specs.Prelude.{◌≡◌, ℕ, ◌+◌, true, List, [], ◌++◌}
+use Rattle.std.specs.Prelude.{◌≡◌, ℕ, ◌+◌, true, List, [], ◌∷◌, ◌++◌}
+use Rattle.lego_base.specs.declared.report.FileOut.{FileOut}
 use Rattle.lego_base.specs.Space.{Space, no_space, with_space}
 use Rattle.elf_image.specs.Image.{Program}
-use Rattle.linux_model.specs.State.{Kernel, Process, Written, joined}
+use Rattle.linux_model.specs.State.{Kernel, Written, joined, unbooted}
 use Rattle.linux_model.specs.Effects.{Effect, applies}
-use Rattle.linux_model.specs.Called.{Called, Gives, Becomes, Waits, Death}
 use Rattle.linux_model.specs.Buffers.{Piece, asks_pieces, copies_in}
 use Rattle.linux_model.specs.Paths.{text_at}
 use Rattle.linux_model.specs.ProcessCalls.{list_at}
 use Rattle.linux_model.specs.Loading.{loads_program, start_space}
+use Rattle.linux_model.specs.Boot.{boot_of, file_effects, booted_process, streams}
 use Rattle.linux_model.specs.Turns.{Schedule, flat, flat_effects, is_over}
 
 -- the run is what its effects, one after the other, make of the kernel that was booted
@@ -26,6 +27,18 @@ OutputOnlyGrows = (schedule : Schedule) (boot : Kernel) (m n : ℕ) → Grows (f
 -- once no process lives, nothing changes any more
 abbrev pub TheEndIsTheEnd : Type 0
 TheEndIsTheEnd = (schedule : Schedule) (boot : Kernel) (m n : ℕ) → is_over (flat schedule boot m).procs ≡ true → flat schedule boot (m + n) ≡ flat schedule boot m
+
+-- After turn 0 there are the description's files, as the effects of their making leave them, and process 1, which starts at
+-- the program's entry in the program's space, with descriptors 0, 1 and 2 and no other one. Nothing was written.
+abbrev pub BootingStartsTheFirst : Type 0
+BootingStartsTheFirst =
+    (program : Program) (args env : List (List ℕ)) (files : List FileOut) (input : List ℕ)
+    → boot_of program args env files input ≡ record (applies (file_effects 0 files) (unbooted input)) {
+      procs = booted_process program args env ∷ [];
+      last = 1;
+      space = with_space (λ pid. no_space) 1 (start_space program args env);
+      descs = streams;
+    }
 
 -- Loading, page by page, comes to the space in which the program starts, for any process that has none.
 abbrev pub LoadingBuildsTheSpace : Type 0

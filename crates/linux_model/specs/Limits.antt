@@ -1,5 +1,5 @@
 -- Numbers of Linux, of its headers for RISC-V, and this machine's limits.
-use Rattle.std.specs.Prelude.{ℕ, ◌-◌, ◌+◌, ◌^◌, ◌==◌, Bool, ◌&&◌, ◌||◌, not, bit_and, nat_lt}
+use Rattle.std.specs.Prelude.{ℕ, ◌-◌, ◌^◌, ◌==◌, Bool, ◌||◌, not, bit_and, nat_lt}
 
 -- errno(3): a call answers minus the number, as a word
 abbrev pub minus : ℕ → ℕ

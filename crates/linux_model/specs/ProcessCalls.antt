@@ -1,6 +1,5 @@
 -- The calls on processes: clone, execve, wait4, and death.
 use Rattle.std.specs.Prelude.{ℕ, zero, suc, ◌+◌, ◌-◌, ◌*◌, ◌%◌, ◌==◌, ◌&&◌, ◌||◌, not, Bool, true, false, if◌then◌else◌, nat_lt, nat_le, List, [], ◌∷◌, ◌++◌, length, Option, Some, None, is_some}
-use Rattle.lego_base.specs.declared.ids.FileNo.{FileNo}
 use Rattle.lego_base.specs.Files.{file_bytes}
 use Rattle.lego_base.specs.Space.{Space, permits, bytes_at, number_of, bytes_of}
 use Rattle.elf_image.specs.Image.{Program, program_of, first_fault}

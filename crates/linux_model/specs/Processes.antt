@@ -1,11 +1,11 @@
 -- The processes: who is there, who refers to what, what a death leaves, who waits for whom.
-use Rattle.std.specs.Prelude.{◌==◌, ℕ, ◌&&◌, ◌||◌, not, Bool, true, false, if◌then◌else◌, List, [], ◌∷◌, map, filter, Option, Some, None, replicate, is_some}
+use Rattle.std.specs.Prelude.{◌==◌, ℕ, ◌&&◌, ◌||◌, not, Bool, true, false, if◌then◌else◌, List, [], ◌∷◌, map, filter, Option, Some, None, replicate}
 use Rattle.lego_base.specs.declared.report.Exit.{Exit}
 use Rattle.rv64_step.specs.declared.cpu.Cpu.{Cpu}
 use Rattle.kernel_objects.specs.declared.descriptor.Description.{Description}
 use Rattle.kernel_objects.specs.declared.descriptor.FdEntry.{FdEntry}
 use Rattle.kernel_objects.specs.declared.descriptor.Object.{Object}
-use Rattle.kernel_objects.specs.declared.descriptor.Object.TheVariants.{Input, Output, Regular, PipeRead, PipeWrite}
+use Rattle.kernel_objects.specs.declared.descriptor.Object.TheVariants.{Regular, PipeRead, PipeWrite}
 use Rattle.kernel_objects.specs.declared.process.Brk.{Brk}
 use Rattle.kernel_objects.specs.Slots.{holds_some}
 use Rattle.linux_model.specs.Limits.{ANY, DESCRIPTORS}

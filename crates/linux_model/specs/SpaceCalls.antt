@@ -1,5 +1,5 @@
 -- The calls on a process's space: brk, munmap, mmap and mprotect, one row a call.
-use Rattle.std.specs.Prelude.{ℕ, zero, suc, ◌+◌, ◌-◌, ◌*◌, ◌/◌, ◌%◌, ◌==◌, ◌&&◌, ◌||◌, not, Bool, true, if◌then◌else◌, nat_lt, nat_le, List, [], ◌∷◌, length, is_none}
+use Rattle.std.specs.Prelude.{ℕ, zero, suc, ◌+◌, ◌-◌, ◌*◌, ◌/◌, ◌%◌, ◌==◌, ◌&&◌, ◌||◌, not, Bool, true, if◌then◌else◌, nat_lt, List, [], ◌∷◌, length, is_none}
 use Rattle.lego_base.specs.declared.perms.Perms.{Perms}
 use Rattle.lego_base.specs.declared.records.Area.{Area}
 use Rattle.lego_base.specs.declared.sizes.TheConstants.{USER_END}
@@ -103,8 +103,8 @@ mmap_row p k address len prot flags =
     ∷ (nat_lt MAPPING_BYTES len, ENOMEM) ∷ [])
     (if is_fixed flags
     then first ((not (is_page_address address) || nat_lt address 4096, EINVAL)
-        ∷ (nat_lt USER_END (address + len), ENOMEM) ∷ [])
-        (maps_fixed p k (address / 4096) (pages_for len) (perms prot) (cut_runs (address / 4096) (pages_for len) (areas_of p k)))
+    ∷ (nat_lt USER_END (address + len), ENOMEM) ∷ [])
+    (maps_fixed p k (address / 4096) (pages_for len) (perms prot) (cut_runs (address / 4096) (pages_for len) (areas_of p k)))
     else behind (AsksSpace p.pid ∷ []) (given (place_of (areas_of p k) len) ENOMEM (maps_at p k (pages_for len) (perms prot))))
 
 -- mprotect(2)

@@ -8,7 +8,7 @@
 //! turn 0. The functions below have laws as their contracts that a reader may ask for.
 #![tactic(auto)]
 
-ghost use Rattle.linux_model.specs.Laws.{LoadingBuildsTheSpace, LookingIsStill, OutputOnlyGrows, RunIsItsEffects, TheEndIsTheEnd};
+ghost use Rattle.linux_model.specs.Laws.{BootingStartsTheFirst, LoadingBuildsTheSpace, LookingIsStill, OutputOnlyGrows, RunIsItsEffects, TheEndIsTheEnd};
 
 /// The run is what its list of effects makes of the kernel that was booted.
 pub fn run_is_its_effects()
@@ -34,4 +34,10 @@ pub fn loading_builds_the_space()
 /// The check of a buffer, a copy from one, and the reading of a path or of strings change nothing.
 pub fn looking_changes_nothing()
     ensures { LookingIsStill }
+{}
+
+/// Turn 0 makes the description's files and starts process 1, in the program's space, with the three standard streams
+/// open and nothing written.
+pub fn booting_starts_the_first()
+    ensures { BootingStartsTheFirst }
 {}

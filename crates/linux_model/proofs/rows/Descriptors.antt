@@ -1,5 +1,5 @@
 -- Worked rows of the calls on descriptors, by computation.
-use Rattle.std.specs.Prelude.{◌≡◌, ℕ, ◌-◌, ◌^◌, true, false, List, [], ◌∷◌, ◌++◌, Some, None, replicate, refl}
+use Rattle.std.specs.Prelude.{◌≡◌, ◌-◌, ◌^◌, true, false, [], ◌∷◌, Some, None, refl}
 use Rattle.kernel_objects.specs.declared.descriptor.Object.TheVariants.{Regular, PipeRead, PipeWrite}
 use Rattle.linux_model.specs.Limits.{EBADF, EINVAL, EMFILE, ENFILE, EFAULT, O_CLOEXEC}
 use Rattle.linux_model.specs.Effects.{Writes, Unlinks, FreesFile, AsksSpan, Opens, Shares, Closes, MakesPipe, CopyOut, applies}

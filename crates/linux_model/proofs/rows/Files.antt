@@ -1,12 +1,12 @@
 -- Worked rows of the calls on files, pipes and streams, by computation.
-use Rattle.std.specs.Prelude.{◌≡◌, ℕ, ◌+◌, ◌-◌, ◌^◌, true, false, List, [], ◌∷◌, ◌++◌, Some, None, replicate, refl}
+use Rattle.std.specs.Prelude.{◌≡◌, ◌+◌, ◌-◌, ◌^◌, false, [], ◌∷◌, ◌++◌, replicate, refl}
 use Rattle.kernel_objects.specs.declared.descriptor.Object.TheVariants.{Regular, PipeRead, PipeWrite}
 use Rattle.kernel_objects.specs.declared.descriptor.Stream.TheVariants.{Out}
 use Rattle.linux_model.specs.Limits.{ENOENT, EBADF, EEXIST, EISDIR, ENOTDIR, EINVAL, ENFILE, EMFILE, EFAULT, EFBIG, ENOSPC, ESPIPE, ENAMETOOLONG, AT_FDCWD, O_CREAT, O_EXCL, O_TRUNC, O_APPEND}
 use Rattle.linux_model.specs.State.{Kernel}
 use Rattle.linux_model.specs.Effects.{Reads, Writes, Refused, AsksSpan, LooksUp, MakesFile, Unlinks, FreesFile, AsksSize, ReadsFile, WritesFile, CutsFile, Opens, Seeks, MakesPipe, PutsPipe, TakesPipe, Takes, Puts, Closes, Fills, CopyIn, CopyOut, applies}
 use Rattle.linux_model.specs.Called.{Gives, Waits, Death, says}
-use Rattle.linux_model.specs.Paths.{Root, resolved, walked}
+use Rattle.linux_model.specs.Paths.{resolved, walked}
 use Rattle.linux_model.specs.FileCalls.{unlinkat_row, openat_row, ftruncate_row, lseek_row, read_row, write_row, readv_row, writev_row, pread64_row, pwrite64_row}
 use Rattle.linux_model.proofs.rows.World.{world, tried, one, with_open, with_descriptions, with_file, spelt}
 

@@ -1,11 +1,10 @@
 -- Worked rows of the calls on processes, of death, and of who is ready and chosen, by computation.
-use Rattle.std.specs.Prelude.{◌≡◌, ℕ, ◌+◌, ◌-◌, ◌*◌, ◌^◌, Bool, true, false, List, [], ◌∷◌, ◌++◌, map, Option, Some, None, replicate, refl, length}
+use Rattle.std.specs.Prelude.{◌≡◌, ℕ, ◌-◌, ◌^◌, true, false, List, [], ◌∷◌, ◌++◌, map, Option, Some, None, replicate, refl}
 use Rattle.kernel_objects.specs.declared.descriptor.Object.TheVariants.{Regular, PipeRead, PipeWrite}
 use Rattle.rv64_step.specs.declared.cpu.Cpu.{Cpu}
 use Rattle.elf_image.specs.Image.{first_fault}
-use Rattle.linux_model.specs.Limits.{ENOENT, E2BIG, ENOEXEC, ECHILD, EAGAIN, EACCES, EFAULT, EINVAL, ENAMETOOLONG, ANY}
+use Rattle.linux_model.specs.Limits.{ENOENT, E2BIG, ENOEXEC, ECHILD, EAGAIN, EACCES, EFAULT, EINVAL, ANY}
 use Rattle.linux_model.specs.State.{Kernel, Process, State, Live, Zombie}
-use Rattle.linux_model.specs.Processes.{process, child_of, dead_child}
 use Rattle.linux_model.specs.Effects.{Effect, Reads, Writes, Refused, AsksSpan, LooksUp, AsksSize, ReadsFile, FreesFile, Opens, Closes, MakesPipe, PutsPipe, Copies, Drops, Forks, Dies, Reaps, Returns, Keeps, Goes, Fills, CopyIn, CopyOut, applies, apply}
 use Rattle.linux_model.specs.Called.{Gives, Waits, Death, says}
 use Rattle.linux_model.specs.Descriptors.{closings}

@@ -1,13 +1,12 @@
 -- Worked runs, by computation.
-use Rattle.std.specs.Prelude.{◌≡◌, ℕ, true, false, List, [], ◌∷◌, ◌++◌, map, Option, Some, None, replicate, refl, length}
+use Rattle.std.specs.Prelude.{◌≡◌, ℕ, false, List, [], ◌∷◌, ◌++◌, Some, None, replicate, refl, length}
 use Rattle.lego_base.specs.declared.report.EndWord.TheVariants.{Done, Stuck, Spent}
 use Rattle.rv64_decode.specs.Table.{decoded, row_of, table}
-use Rattle.rv64_step.specs.declared.cpu.Cpu.{Cpu}
 use Rattle.kernel_objects.specs.declared.descriptor.Object.TheVariants.{PipeRead, PipeWrite}
 use Rattle.linux_model.specs.State.{Kernel, unbooted}
 use Rattle.linux_model.specs.Effects.{Effect, Maps, Fills, Starts, MakesPipe, Opens, applies}
 use Rattle.linux_model.specs.Processes.{exit}
-use Rattle.linux_model.specs.Boot.{standard_streams, file_effects}
+use Rattle.linux_model.specs.Boot.{standard_streams}
 use Rattle.linux_model.specs.Turns.{Schedule, flat, flat_effects, ended}
 use Rattle.linux_model.proofs.rows.World.{area, brk_there}
 

@@ -1,13 +1,12 @@
 -- Worked rows of the calls on spaces, by computation.
-use Rattle.std.specs.Prelude.{◌≡◌, ℕ, ◌+◌, ◌*◌, ◌-◌, ◌^◌, zero, suc, true, List, [], ◌∷◌, ◌++◌, Some, None, refl, length}
+use Rattle.std.specs.Prelude.{◌≡◌, ℕ, ◌+◌, ◌-◌, ◌^◌, zero, suc, List, [], ◌∷◌, refl}
 use Rattle.lego_base.specs.declared.records.Area.{Area}
-use Rattle.lego_base.specs.Space.{Space}
 use Rattle.area_list.specs.Runs.{put_runs, cut_runs}
 use Rattle.area_list.specs.Gap.{lowest_gap}
 use Rattle.area_list.specs.Cover.{covered}
 use Rattle.linux_model.specs.Limits.{EINVAL, ENOMEM}
 use Rattle.linux_model.specs.State.{Kernel}
-use Rattle.linux_model.specs.Effects.{AsksSpace, Maps, Protects, Unmaps, Breaks, Fills, apply, applies}
+use Rattle.linux_model.specs.Effects.{AsksSpace, Maps, Protects, Unmaps, Breaks, apply, applies}
 use Rattle.linux_model.specs.Called.{Gives, says}
 use Rattle.linux_model.specs.SpaceCalls.{brk_row, munmap_row, mmap_row, mprotect_row}
 use Rattle.linux_model.proofs.rows.World.{area, world, tried}

@@ -1,14 +1,10 @@
 -- A small world for worked rows: process 1 with two pages to read and write, of which the first has some paths, and with
 -- the three standard streams.
-use Rattle.std.specs.Prelude.{◌==◌, ℕ, ◌+◌, Bool, true, false, List, [], ◌∷◌, ◌++◌, Option, Some, None, replicate}
-use Rattle.lego_base.specs.declared.perms.Perms.{Perms}
+use Rattle.std.specs.Prelude.{ℕ, ◌+◌, false, List, [], ◌∷◌, ◌++◌, Option, Some, None, replicate}
 use Rattle.lego_base.specs.declared.records.Area.{Area}
-use Rattle.lego_base.specs.Files.{File}
 use Rattle.rv64_step.specs.declared.cpu.Cpu.{Cpu}
 use Rattle.kernel_objects.specs.declared.descriptor.FdEntry.{FdEntry}
-use Rattle.kernel_objects.specs.declared.descriptor.Object.{Object}
 use Rattle.kernel_objects.specs.declared.descriptor.Object.TheVariants.{Input, Regular}
-use Rattle.kernel_objects.specs.declared.descriptor.Description.{Description}
 use Rattle.kernel_objects.specs.declared.process.Brk.{Brk}
 use Rattle.linux_model.specs.State.{Kernel, Process, unbooted}
 use Rattle.linux_model.specs.Processes.{process, first_process}
