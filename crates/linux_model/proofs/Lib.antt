@@ -4,4 +4,5 @@ pub mod Growth
 pub mod Looking
 pub mod Loading
 pub mod Booting
+pub mod Holding
 pub mod rows

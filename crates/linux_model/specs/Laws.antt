@@ -10,6 +10,7 @@ use Rattle.linux_model.specs.Paths.{text_at}
 use Rattle.linux_model.specs.ProcessCalls.{list_at}
 use Rattle.linux_model.specs.Loading.{loads_program, start_space}
 use Rattle.linux_model.specs.Boot.{boot_of, file_effects, booted_process, streams}
+use Rattle.linux_model.specs.Held.{held_in, held_after_all}
 use Rattle.linux_model.specs.Turns.{Schedule, flat, flat_effects, is_over}
 
 -- the run is what its effects, one after the other, make of the kernel that was booted
@@ -54,3 +55,7 @@ pub record LookingIsStill : Type 0 where
   pub copies : (pid : ℕ) (space : Space) (pieces : List Piece) → Still (copies_in pid space pieces)
   pub text : (pid : ℕ) (space : Space) (most address : ℕ) → Still (text_at pid space most address).reads
   pub strings : (pid : ℕ) (space : Space) (left address room : ℕ) → Still (list_at pid space left address room).reads
+
+-- What effects make of spaces and files depends on spaces and files alone.
+abbrev pub HeldGoesAlone : Type 0
+HeldGoesAlone = (es : List Effect) (k : Kernel) → held_in (applies es k) ≡ held_after_all es (held_in k)

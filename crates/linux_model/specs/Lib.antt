@@ -14,4 +14,5 @@ pub mod ProcessCalls
 pub mod Calls
 pub mod Turns
 pub mod Boot
+pub mod Held
 pub mod Laws
