@@ -1,3 +1,4 @@
 pub mod Joins
 pub mod Shapes
 pub mod Showing
+pub mod rows
