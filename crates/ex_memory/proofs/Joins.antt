@@ -1,9 +1,8 @@
 -- Scripts one after the other, and what they depend on.
-use Rattle.std.proofs.Common.{◌≡◌, refl, sym, ◌∙◌, ap, List, [], ◌∷◌, ◌++◌}
+use Rattle.std.proofs.Common.{◌≡◌, refl, ◌∙◌, ap, List, [], ◌∷◌, ◌++◌}
 use Rattle.lego_msg.specs.Marks.{Mark}
-use Rattle.linux_model.specs.State.{Kernel}
-use Rattle.linux_model.specs.Effects.{Effect, apply, applies}
-use Rattle.linux_model.specs.Held.{Held, held_in, held_after}
+use Rattle.linux_model.specs.Effects.{Effect, apply}
+use Rattle.linux_model.specs.Held.{held_after}
 use Rattle.linux_model.proofs.Holding.{goes_alone}
 use Rattle.ex_memory.specs.Now.{Now}
 use Rattle.ex_memory.specs.Script.{marks, passed, all_passed, script}

@@ -1,8 +1,7 @@
 -- What the script depends on keeps its machine's shape.
 use Rattle.std.proofs.Common.{◌≡◌, ℕ, refl, ◌∙◌, List, [], ◌∷◌, ◌++◌}
-use Rattle.lego_base.specs.declared.records.Area.{Area}
 use Rattle.cache_tags.specs.CacheRule.{Past}
-use Rattle.linux_model.specs.Effects.{Effect, Begins, Reads, Writes, Refused, Maps, Protects, Unmaps, Copies, Drops}
+use Rattle.linux_model.specs.Effects.{Effect, Reads, Writes, Refused, Protects, Unmaps, Copies, Drops}
 use Rattle.ex_memory.specs.Now.{Now, with_past, with_pasts}
 use Rattle.ex_memory.specs.Touches.{Part, part_past, part_passed, walked, shown_kind, line_parts, write_parts, refused_parts}
 use Rattle.ex_memory.specs.Regions.{lines_in_pages, all_lines, past_cleaned, past_removed}

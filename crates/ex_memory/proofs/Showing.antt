@@ -1,5 +1,5 @@
 -- The script shows the flat run: whatever is called for, and whichever lines are dropped, what else is shown is the same.
-use Rattle.std.proofs.Common.{◌≡◌, ℕ, zero, suc, ◌+◌, ◌-◌, ◌*◌, ◌/◌, Bool, true, false, cond, leb, ltb, ◌||◌, refl, sym, ◌∙◌, ap, List, [], ◌∷◌, ◌++◌, map, length, append_assoc, Option, Some, None}
+use Rattle.std.proofs.Common.{◌≡◌, ℕ, zero, suc, ◌+◌, ◌*◌, ◌/◌, Bool, true, false, cond, leb, ◌||◌, refl, ◌∙◌, ap, List, [], ◌∷◌, ◌++◌, map, length, Option, Some, None}
 use Rattle.lego_base.specs.declared.ids.MemId.{MemId}
 use Rattle.lego_base.specs.declared.records.Area.{Area}
 use Rattle.lego_base.specs.declared.records.HomeEntry.{HomeEntry}
@@ -7,18 +7,16 @@ use Rattle.lego_base.specs.declared.records.Patch.{Patch}
 use Rattle.lego_base.specs.declared.shape.Shape.{Shape}
 use Rattle.lego_base.specs.declared.sizes.TheConstants.{USER_END}
 use Rattle.lego_base.specs.Keys.{Key}
-use Rattle.area_list.specs.Runs.{cut_runs}
 use Rattle.lego_msg.specs.declared.event.Event.{Event}
-use Rattle.lego_msg.specs.declared.event.Event.TheVariants.{Access}
 use Rattle.lego_msg.specs.Laws.{shows}
 use Rattle.lego_msg.specs.Marks.{Mark}
 use Rattle.placement.specs.Owners.{handed_on}
-use Rattle.linux_model.specs.Effects.{Effect, Begins, Reads, Writes, Refused, AsksSpan, AsksSpace, Maps, Protects, Unmaps, Fills, Copies, Drops, LooksUp, MakesFile, Unlinks, FreesFile, AsksSize, ReadsFile, WritesFile, CutsFile, Puts}
+use Rattle.linux_model.specs.Effects.{Effect, Reads, Writes, Refused, AsksSpan, AsksSpace, Maps, Protects, Unmaps, Fills, Copies, Drops, ReadsFile, WritesFile}
 use Rattle.linux_model.specs.Held.{held_after}
 use Rattle.ex_memory.specs.Cuts.{LINE, PAGE, BLOCK, Span, Chunk, spans, chunks}
 use Rattle.ex_memory.specs.Now.{Now, pid_no, line_at, is_there, is_dirty, is_mapped, line_owner, line_patch, page_owner, owned_of, owners}
-use Rattle.ex_memory.specs.Touches.{Part, shown_kind, line_parts, write_parts, refused_parts, writes_back, cleaned, dropped, put_out, victim, reads_from, touches, access_of, part_marks, part_passed, walk}
-use Rattle.ex_memory.specs.Regions.{asks, asked_for, sets_homes, sets_areas_of, sets_areas, maps, has_mapped, unmaps_part, unmaps_parts, unmaps, range_start, range_end, drains_for, copies_for, copies, drains_from, drops, drops_lines, puts_out_lines, cleans_lines, lines_in_pages, all_lines, same_areas, part_in, new_owners, owners_among, with_owners}
+use Rattle.ex_memory.specs.Touches.{Part, shown_kind, line_parts, write_parts, refused_parts, writes_back, cleaned, dropped, put_out, victim, reads_from, touches, access_of, part_passed, walk}
+use Rattle.ex_memory.specs.Regions.{asks, asked_for, sets_homes, sets_areas, maps, has_mapped, unmaps_parts, unmaps, range_start, range_end, drains_for, copies_for, copies, drains_from, drops_lines, puts_out_lines, cleans_lines, lines_in_pages, all_lines, same_areas, part_in, new_owners, owners_among, with_owners}
 use Rattle.ex_memory.specs.Script.{marks, passed, script, reads_blocks, writes_blocks, fill_written, fill_patch}
 use Rattle.ex_memory.specs.Seen.{part_seen, seen, all_seen, undropped}
 use Rattle.ex_memory.specs.Laws.{ScriptShowsTheFlatRun}

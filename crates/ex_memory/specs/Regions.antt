@@ -1,25 +1,23 @@
 -- Changes of spaces, region by region: what they call for, and what they make of caches and owners.
-use Rattle.std.specs.Prelude.{ℕ, zero, suc, ◌+◌, ◌-◌, ◌*◌, ◌/◌, ◌==◌, ◌&&◌, ◌||◌, Bool, true, false, not, if◌then◌else◌, nat_le, nat_lt, min, max, List, [], ◌∷◌, ◌++◌, length, map, filter, Option, Some, None}
-use Rattle.lego_base.specs.declared.ids.MemId.{MemId}
-use Rattle.lego_base.specs.declared.ids.RegionNo.{RegionNo}
+use Rattle.std.specs.Prelude.{ℕ, zero, suc, ◌+◌, ◌-◌, ◌*◌, ◌/◌, ◌==◌, ◌&&◌, ◌||◌, Bool, true, false, if◌then◌else◌, nat_lt, min, max, List, [], ◌∷◌, ◌++◌, length, map, filter}
 use Rattle.lego_base.specs.declared.records.Area.{Area}
 use Rattle.lego_base.specs.declared.records.HomeEntry.{HomeEntry}
 use Rattle.lego_base.specs.declared.sizes.TheConstants.{USER_END}
-use Rattle.lego_base.specs.Keys.{Key, key_at, is_of, those}
+use Rattle.lego_base.specs.Keys.{Key, key_at, those}
 use Rattle.area_list.specs.Runs.{above, below, cut_runs, end_of}
 use Rattle.lego_msg.specs.declared.operation.Operation.{Operation}
 use Rattle.lego_msg.specs.declared.operation.Operation.TheVariants as op
-use Rattle.lego_msg.specs.Maps.{home_key, owned_by, owner_of}
+use Rattle.lego_msg.specs.Maps.{home_key, owned_by}
 use Rattle.lego_msg.specs.Marks.{Mark, Call, order}
 use Rattle.lego_msg.specs.Places.{secondary_of}
 use Rattle.cache_tags.specs.CacheRule.{Past, Removed, Cleaned}
-use Rattle.cache_tags.specs.Sets.{SetLines, Tagged}
+use Rattle.cache_tags.specs.Sets.{SetLines}
 use Rattle.cache_tags.specs.Tags.{in_range}
 use Rattle.cache_tags.specs.declared.set.Held.{Held as HeldLine}
 use Rattle.kernel_model.specs.Boot.{with_number, with_numbers}
-use Rattle.placement.specs.Owners.{Owned, Placing, Assigns, handed_on, inherited, mapped, placed_all, entry}
+use Rattle.placement.specs.Owners.{Owned, Placing, Assigns, handed_on, mapped, placed_all}
 use Rattle.ex_memory.specs.Cuts.{LINE, PAGE, REGION, REGION_PAGES}
-use Rattle.ex_memory.specs.Now.{Now, pid_no, region_no, line_no, mem_no, lines_for, is_dirty, owners, owned_of, with_pasts}
+use Rattle.ex_memory.specs.Now.{Now, pid_no, region_no, line_no, mem_no, lines_for, is_dirty, owners, owned_of}
 use Rattle.ex_memory.specs.Touches.{cleaned, dropped}
 
 -- one operation, by whoever issues
@@ -160,7 +158,7 @@ abbrev pub unmaps_part : Now → List Area → HomeEntry → ℕ → ℕ → Lis
 unmaps_part n areas e lo hi rest =
     if has_mapped lo hi areas
     then does n (op.Drains (mem_no (secondary_of (length n.shape.frames) e.owner.0)))
-        (does n (op.Unmaps e.pid e.region (record { 0 = lo }) (hi - lo) (cut_runs lo (hi - lo) (part_in e.region.0 areas)) e.owner) rest)
+    (does n (op.Unmaps e.pid e.region (record { 0 = lo }) (hi - lo) (cut_runs lo (hi - lo) (part_in e.region.0 areas)) e.owner) rest)
     else rest
 
 abbrev pub unmaps_parts : Now → List Area → ℕ → ℕ → List HomeEntry → List Mark → List Mark

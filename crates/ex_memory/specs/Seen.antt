@@ -1,6 +1,5 @@
 -- What the plain kernel's run shows, with no cache, owner or message in it: turns, accesses cut at lines, fills, output.
 use Rattle.std.specs.Prelude.{ℕ, ◌++◌, if◌then◌else◌, Bool, true, false, List, [], ◌∷◌, map}
-use Rattle.lego_base.specs.declared.ids.Pid.{Pid}
 use Rattle.lego_msg.specs.declared.event.Event.{Event}
 use Rattle.lego_msg.specs.declared.event.Event.TheVariants.{Turn, Access, Fill, Drop, Out}
 use Rattle.placement.specs.Processors.{processor_with}

@@ -1,9 +1,9 @@
 -- Accesses, line by line: what a touch of a line calls for, and what it makes of the cache.
-use Rattle.std.specs.Prelude.{ℕ, ◌+◌, ◌*◌, ◌/◌, ◌&&◌, ◌||◌, Bool, true, false, not, if◌then◌else◌, nat_le, nat_lt, List, [], ◌∷◌, ◌++◌, length, map, Option, Some, None}
+use Rattle.std.specs.Prelude.{ℕ, ◌*◌, ◌/◌, ◌||◌, Bool, true, false, if◌then◌else◌, nat_le, nat_lt, List, [], ◌∷◌, ◌++◌, length, map, Option, Some, None}
 use Rattle.lego_base.specs.declared.ids.MemId.{MemId}
 use Rattle.lego_base.specs.declared.records.Patch.{Patch}
 use Rattle.lego_base.specs.declared.sizes.TheConstants.{USER_END}
-use Rattle.lego_base.specs.Keys.{Key, key_at}
+use Rattle.lego_base.specs.Keys.{Key}
 use Rattle.lego_base.specs.Space.{Space, permits, bytes_at}
 use Rattle.lego_msg.specs.declared.event.Event.{Event}
 use Rattle.lego_msg.specs.declared.event.Event.TheVariants.{Access, Drop}
@@ -69,10 +69,11 @@ need_of Store = 2
 need_of CopyIn = 1
 need_of CopyOut = 2
 
--- a part before the one that isn't permitted: its bytes were read, and of a store it was probed
+-- a part before the one that isn't permitted: its bytes were read; one that was to be written was probed
 abbrev pub passed_part : Kind → ℕ → Space → Span → Part
-passed_part Store pid space x = probe_at pid x.at
-passed_part other pid space x = record { pid = pid; at = x.at; kind = shown_kind other; bytes = bytes_at space x.at x.size }
+passed_part kind pid space x =
+    if writes (shown_kind kind) then probe_at pid x.at
+    else record { pid = pid; at = x.at; kind = shown_kind kind; bytes = bytes_at space x.at x.size }
 
 -- an access that isn't permitted ends with a probe of the first part that isn't
 abbrev pub refused_in : Kind → ℕ → Space → List Span → List Part

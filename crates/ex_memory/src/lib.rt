@@ -6,7 +6,7 @@
 //! contracts.
 #![tactic(auto)]
 
-ghost use Rattle.ex_memory.specs.Laws.{ScriptGoesWithTheKernel, ScriptShowsTheFlatRun, ScriptsJoin};
+ghost use Rattle.ex_memory.specs.Laws.{BlocksMakeTheFile, OwnersGoByTurns, PartsMakeTheWhole, ScriptGoesWithTheKernel, ScriptShowsTheFlatRun, ScriptsJoin};
 
 /// The script of effects and then of others is the one and then the other.
 pub fn scripts_join()
@@ -22,4 +22,19 @@ pub fn the_script_goes_with_the_kernel()
 /// cache, every owner and every placement.
 pub fn the_script_shows_the_flat_run()
     ensures { ScriptShowsTheFlatRun }
+{}
+
+/// The parts of an access, one after the other, make of spaces what the access makes of them.
+pub fn parts_make_the_whole()
+    ensures { PartsMakeTheWhole }
+{}
+
+/// The blocks of a write, one after the other, make of a file what the write makes.
+pub fn blocks_make_the_file()
+    ensures { BlocksMakeTheFile }
+{}
+
+/// Owners are those of the rule of placement, by the count of assignments over the whole run.
+pub fn owners_go_by_turns()
+    ensures { OwnersGoByTurns }
 {}

@@ -1,5 +1,5 @@
 -- Worked scripts of single effects, by computation: a machine with two memories and one processor whose cache has one line.
-use Rattle.std.specs.Prelude.{◌≡◌, ℕ, ◌+◌, ◌^◌, true, false, List, [], ◌∷◌, ◌++◌, replicate, refl, Some, None}
+use Rattle.std.specs.Prelude.{◌≡◌, ℕ, ◌^◌, true, false, List, [], ◌∷◌, ◌++◌, replicate, refl}
 use Rattle.lego_base.specs.declared.ids.MemId.{MemId}
 use Rattle.lego_base.specs.declared.records.Area.{Area}
 use Rattle.lego_base.specs.declared.records.HomeEntry.{HomeEntry}
@@ -10,12 +10,11 @@ use Rattle.lego_msg.specs.declared.event.Kind.{Kind as ShownKind}
 use Rattle.lego_msg.specs.declared.operation.Operation.{Operation}
 use Rattle.lego_msg.specs.declared.operation.Operation.TheVariants as op
 use Rattle.lego_msg.specs.declared.operation.Origin.TheVariants as origin
-use Rattle.lego_msg.specs.declared.place.Place.{Place}
 use Rattle.lego_msg.specs.declared.place.Place.TheVariants.{Processor, Manager}
 use Rattle.lego_msg.specs.Marks.{Mark, Call, Show, order}
 use Rattle.area_list.specs.Runs.{cut_runs}
 use Rattle.kernel_objects.specs.declared.descriptor.Stream.TheVariants.{Out}
-use Rattle.linux_model.specs.Effects.{Effect, Begins, Reads, Writes, Refused, AsksSpan, AsksSpace, Maps, Protects, Unmaps, Fills, Copies, Drops, MakesFile, ReadsFile, WritesFile, Puts, Fetch, Load, Store, CopyIn, CopyOut}
+use Rattle.linux_model.specs.Effects.{Effect, Begins, Reads, Writes, Refused, AsksSpan, Maps, Protects, Unmaps, Fills, Copies, Drops, MakesFile, ReadsFile, WritesFile, Puts, Fetch, Load, Store, CopyOut}
 use Rattle.ex_memory.specs.Now.{Now, at_start, pid_no, line_no, region_no, mem_no, owners}
 use Rattle.ex_memory.specs.Script.{script, all_passed, archives, file_no}
 
