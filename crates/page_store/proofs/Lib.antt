@@ -4,3 +4,4 @@ pub mod Laid
 pub mod Freed
 pub mod Replaced
 pub mod Formed
+pub mod Copied

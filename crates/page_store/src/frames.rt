@@ -57,6 +57,23 @@ pub fn bytes(frames: &Slab<Page>, frame: usize) -> &[u8]
     }
 }
 
+/// A copy of the page at a place, for another process.
+pub fn copy(frames: &Slab<Page>, spot: Spot, child: Pid) -> Page
+    requires { ContainsKey frames.now spot.frame }
+    ensures pid { result.pid ≡ child }
+    ensures vpn { result.vpn ≡ spot.vpn }
+    ensures bytes { result.bytes ≡ bytes_in (get frames.now spot.frame) }
+{
+    match frames.get(spot.frame) {
+        Some(page) => Page {
+            pid: child,
+            vpn: spot.vpn,
+            bytes: page.bytes,
+        },
+        None => unreachable!(),
+    }
+}
+
 /// Lays bytes over those of a frame.
 pub fn lay(frames: &mut Slab<Page>, frame: usize, off: usize, bytes: &[u8])
     requires held { ContainsKey frames.old frame }

@@ -5,6 +5,7 @@
 //! present reads 0. Only `PageStore::new` and `PageStore::pages_of` take memory.
 #![tactic(auto)]
 
+mod copying;
 mod frames;
 mod spot;
 mod store;

@@ -5,10 +5,10 @@ ghost use Rattle.std.specs.List.{AllByRecursion};
 ghost use Rattle.lego_base.specs.Pieces.{piece};
 ghost use Rattle.lego_base.specs.Keys.{Key, Rises, find, is_of, is_page_from, is_page_of, key_at, put, put_all, those, without};
 ghost use Rattle.lego_msg.specs.Maps.{page_at, page_key, pages_of, patched, with_pages};
-ghost use Rattle.lego_msg.specs.Form.{ArePages};
+ghost use Rattle.lego_msg.specs.Form.{ArePages, IsWithinPage};
 ghost use Rattle.keyed_list.specs.Places.{IsAt};
 ghost use Rattle.page_store.specs.Spots.{AreHeld, IsTied, SaysWithin, images, page_image, spot_key};
-ghost use Rattle.page_store.specs.Store.{IsWithinPage, patch_of};
+ghost use Rattle.page_store.specs.Store.{patch_of};
 
 use crate::frames::{self, Page, page_of};
 use crate::spot::Spot;
@@ -29,9 +29,9 @@ pub struct Full;
 /// reads 0.
 #[derive(Debug, Drop)]
 pub struct PageStore {
-    most: u32, // frames
-    spots: Vec<Spot>, // rising by process and page
-    frames: Slab<Page>,
+    pub(crate) most: u32, // frames
+    pub(crate) spots: Vec<Spot>, // rising by process and page
+    pub(crate) frames: Slab<Page>,
 }
 
 impl Model for PageStore {
@@ -117,6 +117,13 @@ impl PageStore {
         }
     }
 
+    /// Drops the pages of a region.
+    pub fn drop_region(&mut self, pid: Pid, region: RegionNo)
+        ensures { self.new ≡ holding self.old (without page_key (is_page_of pid.0 region.0) self.old.pages) }
+    {
+        drop_region(&mut self.spots, &mut self.frames, pid, region);
+    }
+
     /// Drops all pages of a process.
     pub fn drop_process(&mut self, pid: Pid)
         ensures { self.new ≡ holding self.old (without page_key (is_of pid.0) self.old.pages) }
@@ -143,6 +150,7 @@ impl PageStore {
     pub fn used(&self) -> u32
         ensures used { result ≡ length self.now.pages }
         ensures few { length self.now.pages ≤ self.now.frames }
+        ensures rises { Rises page_key self.now.pages }
         ensures form { (pid region : ℕ) → ArePages pid region (pages_of pid region self.now.pages) }
     {
         let _most = self.most; // there are no more pages than this
@@ -267,7 +275,7 @@ fn lay_over(
 }
 
 // Adds a page that isn't present.
-fn add(spots: &mut Vec<Spot>, frames: &mut Slab<Page>, page: Page)
+pub(crate) fn add(spots: &mut Vec<Spot>, frames: &mut Slab<Page>, page: Page)
     requires tied { IsTied spots.old.items frames.old.slots }
     requires absent { find spot_key (key_at page.pid.0 page.vpn.0) spots.old.items ≡ None }
     requires bytes { length page.bytes ≡ 4096 }
@@ -315,7 +323,7 @@ fn put_whole(
 }
 
 // Where the pages of a region are.
-fn region_span(spots: &[Spot], pid: Pid, region: RegionNo) -> (usize, usize)
+pub(crate) fn region_span(spots: &[Spot], pid: Pid, region: RegionNo) -> (usize, usize)
     requires rises { Rises spot_key spots.now }
     requires fit { AllByRecursion (λ s. s.vpn.0 < 2 ^ 64) spots.now }
     ensures order { result.0 ≤ result.1 }
@@ -335,6 +343,7 @@ fn used_in(spots: &[Spot], frames: &Slab<Page>) -> usize
     requires { IsTied spots.now frames.now.slots }
     ensures used { result ≡ length (images frames.now.slots spots.now) }
     ensures spots { result ≡ length spots.now }
+    ensures rises { Rises page_key (images frames.now.slots spots.now) }
     ensures form { (pid region : ℕ) → ArePages pid region (pages_of pid region (images frames.now.slots spots.now)) }
 {
     let _frames = frames; // what they hold is in form
@@ -342,7 +351,7 @@ fn used_in(spots: &[Spot], frames: &Slab<Page>) -> usize
 }
 
 // How many pages of a region are present.
-fn count_in(spots: &[Spot], frames: &Slab<Page>, pid: Pid, region: RegionNo) -> usize
+pub(crate) fn count_in(spots: &[Spot], frames: &Slab<Page>, pid: Pid, region: RegionNo) -> usize
     requires { IsTied spots.now frames.now.slots }
     ensures count { result ≡ length (pages_of pid.0 region.0 (images frames.now.slots spots.now)) }
     ensures few { result ≤ length spots.now }
@@ -443,7 +452,12 @@ fn replace_in(
 }
 
 // Drops the pages of a region.
-fn drop_region(spots: &mut Vec<Spot>, frames: &mut Slab<Page>, pid: Pid, region: RegionNo)
+pub(crate) fn drop_region(
+    spots: &mut Vec<Spot>,
+    frames: &mut Slab<Page>,
+    pid: Pid,
+    region: RegionNo,
+)
     requires tied { IsTied spots.old.items frames.old.slots }
     ensures pages { images frames.new.slots spots.new.items ≡ without page_key (is_page_of pid.0 region.0) (images frames.old.slots spots.old.items) }
     ensures tied { IsTied spots.new.items frames.new.slots }
