@@ -5,3 +5,4 @@ pub mod Freed
 pub mod Replaced
 pub mod Formed
 pub mod Copied
+pub mod Owned

@@ -7,11 +7,10 @@ ghost use Rattle.lego_msg.specs.Maps.{for_child, page_key, pages_of};
 ghost use Rattle.page_store.specs.Spots.{IsHeld, IsTied, image, images, spot_key};
 ghost use Rattle.page_store.specs.Store.{copied};
 
-use crate::frames::{self, Page};
+use crate::frames::{self, PageFrames};
 use crate::spot::Spot;
 use crate::store::{Full, PageStore, add, count_in, drop_region, region_span};
 use lego_base::{Pid, RegionNo};
-use slab::Slab;
 
 impl PageStore {
     ghost use Rattle.page_store.specs.Store.{are_too_many, holding};
@@ -38,7 +37,7 @@ impl PageStore {
 // Makes the child's pages of a region those of the parent.
 fn copy_region(
     spots: &mut Vec<Spot>,
-    frames: &mut Slab<Page>,
+    frames: &mut PageFrames,
     most: u32,
     parent: Pid,
     child: Pid,
@@ -71,7 +70,7 @@ fn copy_region(
 // Copies the pages of a region one after the other. The child has none there, and there is a frame for each.
 fn copy_each(
     spots: &mut Vec<Spot>,
-    frames: &mut Slab<Page>,
+    frames: &mut PageFrames,
     most: u32,
     parent: Pid,
     child: Pid,
@@ -112,7 +111,7 @@ fn spot_in(spots: &[Spot], pid: Pid, region: RegionNo, index: usize) -> Spot
 }
 
 // Copies a page for a child, which has none with its number. There is a frame.
-fn copy_one(spots: &mut Vec<Spot>, frames: &mut Slab<Page>, spot: Spot, child: Pid)
+fn copy_one(spots: &mut Vec<Spot>, frames: &mut PageFrames, spot: Spot, child: Pid)
     requires tied { IsTied spots.old.items frames.old.slots }
     requires held { IsHeld frames.old.slots spot }
     requires absent { find spot_key (key_at child.0 spot.vpn.0) spots.old.items ≡ None }

@@ -7,6 +7,7 @@
 
 mod copying;
 mod frames;
+mod hints;
 mod spot;
 mod store;
 
