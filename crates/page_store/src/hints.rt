@@ -14,9 +14,9 @@ pub struct Hints {
 }
 
 impl Hints {
-    /// As many hints as there are frames.
+    /// Two hints a frame.
     pub fn new(alloc: Global, frames: u32) -> Result<Hints, NoMemory> {
-        let frames = vec![in alloc; 0; frames as usize]?;
+        let frames = vec![in alloc; 0; 2 * frames as usize]?;
         Ok(Hints { frames })
     }
 
