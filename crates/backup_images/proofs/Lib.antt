@@ -4,3 +4,4 @@ pub mod Places
 pub mod Groups
 pub mod Filters
 pub mod Weights
+pub mod Twice

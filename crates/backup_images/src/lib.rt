@@ -14,7 +14,10 @@ mod segment;
 mod weight;
 
 pub use images::Images;
-pub use laws::{compacted_lists_are_light, compacted_lists_keep_their_images};
+pub use laws::{
+    a_batch_applied_twice_gives_the_images_of_once, compacted_lists_are_light,
+    compacted_lists_keep_their_images,
+};
 pub use segment::Seg;
 
 #[cfg(test)]
