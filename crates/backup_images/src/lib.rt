@@ -9,7 +9,7 @@ mod images;
 mod laws;
 mod page;
 mod pages;
-mod play;
+mod regions;
 mod segment;
 mod weight;
 

@@ -1,42 +1,15 @@
-//! What segments make of images, and the fewest segments that make some images.
+//! Segments that make the images of regions anew.
 
 ghost use Rattle.std.specs.Prelude.{◌≡◌, IfOk, OnOk};
 ghost use Rattle.lego_base.specs.Keys.{Rises};
 ghost use Rattle.lego_msg.specs.Maps.{page_key};
-ghost use Rattle.backup_images.specs.Segments.{after_segment, alone, belongs_to, copied, extended, images_after, regions_reset, with_image};
+ghost use Rattle.backup_images.specs.Segments.{alone, belongs_to, copied, extended, images_after, regions_reset, with_image};
 
 use crate::page::Page;
 use crate::pages;
 use crate::segment::Seg;
 use lego_base::{NoMemory, PageImage, Pid, RegionNo, Seq};
 use std::alloc::Global;
-
-/// Makes of the pages what a segment makes of them.
-pub(crate) fn play(alloc: Global, pages: &mut Vec<Page>, segment: &Seg) -> Result<(), NoMemory>
-    requires { Rises page_key pages.old.items }
-    ensures { OnOk result (pages.new.items ≡ after_segment pages.old.items segment.now) }
-{
-    match segment {
-        Seg::Patches(patches) => pages::lay_all(alloc, pages, patches.as_slice()),
-        Seg::Dropped {
-            pid,
-            first,
-            pages: count,
-        } => {
-            pages::drop_pages(pages, *pid, *first, *count);
-            Ok(())
-        }
-        Seg::Freed { pid } => {
-            pages::drop_process(pages, *pid);
-            Ok(())
-        }
-        Seg::Reset {
-            pid,
-            region,
-            pages: images,
-        } => pages::reset(alloc, pages, *pid, *region, images.as_slice()),
-    }
-}
 
 // The segment of one image.
 fn alone(alloc: Global, image: PageImage) -> Result<Seg, NoMemory>
@@ -120,13 +93,12 @@ pub(crate) fn copy_regions(
     let mut segments = Vec::new(alloc);
     for region in regions {
         let images = pages::images_as(alloc, pages.as_slice(), parent, *region, child)?;
-        let segment = Seg::Reset {
+        pages::reset(alloc, pages, child, *region, images.as_slice())?;
+        segments.push(Seg::Reset {
             pid: child,
             region: *region,
             pages: Seq::from_vec(images),
-        };
-        play(alloc, pages, &segment)?;
-        segments.push(segment)?;
+        })?;
     }
     Ok(segments)
 }

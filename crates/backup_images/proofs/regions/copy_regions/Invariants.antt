@@ -2,7 +2,7 @@ use Rattle.std.proofs.Common.{◌≡◌, ◌++◌, drop}
 use Rattle.lego_base.specs.Keys.{Rises}
 use Rattle.lego_msg.specs.Maps.{page_key}
 use Rattle.backup_images.specs.Segments.{copied, images_after}
-use Rattle.backup_images.proofs.play.copy_regions.Given as goal
+use Rattle.backup_images.proofs.regions.copy_regions.Given as goal
 
 abbrev pub invariant-loop-region : goal.invariant-loop-region
 invariant-loop-region l =

@@ -2,7 +2,7 @@ use Rattle.std.proofs.Common.{◌≡◌, [], ◌∷◌, ◌++◌, ◌∙◌, ap,
 use Rattle.std.proofs.lemmas.List.{append_assoc}
 use Rattle.backup_images.specs.Segments.{alone, extended, joined_to, with_image}
 use Rattle.backup_images.proofs.Groups.{extended_last}
-use Rattle.backup_images.proofs.play.extend.Goals as goal
+use Rattle.backup_images.proofs.regions.extend.Goals as goal
 
 pub returns-then-belongs_to : goal.returns-then-belongs_to
 returns-then-belongs_to c =
