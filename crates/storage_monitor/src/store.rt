@@ -44,7 +44,8 @@ impl Store {
         Ok(Store { images, files })
     }
 
-    /// Handles a message by the message table; what is sent goes to the end of `out`. After lack of memory nothing is known.
+    /// Handles a message by the message table; what is sent goes to the end of `out`. If memory runs out, nothing is known of
+    /// the store any more.
     pub fn handle(&mut self, alloc: Global, m: Message, out: &mut Outbox) -> Result<(), NoMemory>
         requires form { InForm m.body }
         requires there { HasFile self.old m.body }
@@ -60,6 +61,13 @@ impl Store {
             op: m.op,
             body,
         })
+    }
+
+    /// Whether a file is there, which requests for its size or its bytes need.
+    pub fn has_file(&self, file: FileNo) -> bool
+        ensures { result ≡ is_file self.now.files.files file.0 }
+    {
+        self.files.has(file)
     }
 
     // Does what a message asks for, and gives the answer. These are the rows of images.
