@@ -1,14 +1,10 @@
 -- What a test keeps of a list of images.
-use Rattle.std.proofs.Common.{◌≡◌, ◌/◌, [], ◌∷◌, ℕ, Bool, List, ap, cond, eqb, false, filter, map, refl, sym, true}
+use Rattle.std.proofs.Common.{◌≡◌, ◌/◌, [], ◌∷◌, ℕ, Bool, List, cond, eqb, false, map, refl, sym, true}
 use Rattle.std.proofs.lemmas.Bool.{and_parts, eqb-true}
-use Rattle.lego_base.specs.Keys.{Key, is_page_of, those}
+use Rattle.lego_base.specs.Keys.{is_page_of}
 use Rattle.lego_base.specs.declared.ids.Pid.{Pid}
 use Rattle.lego_base.specs.declared.records.PageImage.{PageImage}
 use Rattle.lego_msg.specs.Maps.{for_child, page_key, pages_of}
-
-pub those_filter : {X : Type 0} (key : X → Key) (test : Key → Bool) (xs : List X) → filter (λ x. test (key x)) xs ≡ those key test xs
-those_filter key test [] = refl
-those_filter key test (x ∷ xs) = ap (λ t. cond (test (key x)) (x ∷ t) t) (those_filter key test xs)
 
 -- images of a process, as its own
 pub own_images : (pid : Pid) (region : ℕ) (pages : List PageImage) → map (for_child pid) (pages_of pid.0 region pages) ≡ pages_of pid.0 region pages

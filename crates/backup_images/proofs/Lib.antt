@@ -1,6 +1,8 @@
 pub mod Order
 pub mod Rising
-pub mod Places
+pub mod Spans
 pub mod Groups
 pub mod Filters
 pub mod Weights
+pub mod Twice
+pub mod Cuts

@@ -3,11 +3,9 @@ use Rattle.std.proofs.Common.{◌≡◌, ◌+◌, ◌*◌, ◌≤◌, [], ◌∷
 use Rattle.std.proofs.lemmas.Bool.{ltb-false}
 use Rattle.std.proofs.lemmas.List.Sums.{sum_by-append}
 use Rattle.std.specs.List.{AllByRecursion}
-use Rattle.lego_base.specs.declared.ids.Pid.{Pid}
-use Rattle.lego_base.specs.declared.ids.RegionNo.{RegionNo}
 use Rattle.lego_base.specs.declared.records.PageImage.{PageImage}
 use Rattle.backup_images.specs.Laws.{CompactedIsLight, CompactedKeepsImages}
-use Rattle.backup_images.specs.Segments.{alone, compacted, extended, images_in, is_heavy, is_in, joined, joined_to, regions_reset, weight_of, weights}
+use Rattle.backup_images.specs.Segments.{alone, extended, images_in, is_heavy, is_in, joined, joined_to, regions_reset, weight_of, weights}
 use Rattle.backup_images.specs.declared.segment.Seg.{Seg}
 use Rattle.backup_images.specs.declared.segment.Seg.TheVariants.{Dropped, Freed, Patches, Reset}
 use Rattle.backup_images.proofs.Groups.{compacted_images}

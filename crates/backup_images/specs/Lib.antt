@@ -1,3 +1,3 @@
 pub mod Segments
-pub mod Places
+pub mod Spans
 pub mod Laws

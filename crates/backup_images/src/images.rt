@@ -1,21 +1,21 @@
 //! The images of pages at storage.
 
-ghost use Rattle.std.specs.Prelude.{◌≡◌, [], ◌∷◌, ◌++◌, IfOk, OnOk, OnErr, map};
+ghost use Rattle.std.specs.Prelude.{◌≡◌, ◌≤◌, [], ◌∷◌, ◌++◌, IfOk, OnOk, OnErr, drop, length, map, take};
 ghost use Rattle.lego_base.specs.Keys.{Rises, is_of, is_page_from, without};
 ghost use Rattle.lego_base.specs.declared.records.PageImage.{PageImage};
 ghost use Rattle.lego_msg.specs.Maps.{copied_pages, overlaid, page_key, pages_of, with_pages};
 
 use crate::page::Page;
 use crate::pages;
-use crate::play::{copy_regions, play, regions_reset};
+use crate::regions::{copy_regions, regions_reset};
 use crate::segment::Seg;
-use crate::weight::{is_heavy, weights};
+use crate::weight::{is_heavy, weight_with, weights};
 use lego_base::{NoMemory, PageImage, Patch, Pid, RegionNo, Seq, Vpn};
 use std::alloc::Global;
 use std::marker::Model;
 
 /// The images of pages, as the list of the segments that made them. Contracts see this list; the images are `images_in` of
-/// it. Where the list becomes too heavy for its images, it is made anew. After lack of memory it is as before.
+/// it. Where the list becomes too heavy for its images, it is made anew. If memory runs out, nothing changes.
 #[derive(Drop)]
 pub struct Images {
     alloc: Global,
@@ -39,7 +39,7 @@ impl Model for Images {
 
 impl Images {
     ghost use Rattle.backup_images.specs.declared.segment.Seg.TheVariants.{Dropped, Freed, Patches, Reset};
-    ghost use Rattle.backup_images.specs.Segments.{compacted, copied, images_after, images_in, regions_reset, weights};
+    ghost use Rattle.backup_images.specs.Segments.{after_segment, compacted, copied, images_after, images_in, regions_reset, weights};
 
     /// No image.
     pub fn new(alloc: Global) -> Result<Images, NoMemory>
@@ -59,8 +59,10 @@ impl Images {
         ensures images { OnOk result (images_in self.new ≡ overlaid batch.now (images_in self.old)) }
         ensures err { OnErr result (self.new ≡ self.old) }
     {
+        let mut images = pages::copied(self.alloc, self.pages.as_slice())?;
+        pages::lay_all(self.alloc, &mut images, batch)?;
         let batch = Seq::from_vec(Vec::from_clones(self.alloc, batch)?);
-        self.append(Seg::Patches(batch))
+        self.append(Seg::Patches(batch), images)
     }
 
     /// Drops the images of pages.
@@ -69,7 +71,8 @@ impl Images {
         ensures images { OnOk result (images_in self.new ≡ without page_key (is_page_from pid.0 first.0 pages) (images_in self.old)) }
         ensures err { OnErr result (self.new ≡ self.old) }
     {
-        self.append(Seg::Dropped { pid, first, pages })
+        let (start, end) = pages::page_span(self.pages.as_slice(), pid, first, pages);
+        self.cut(start, end, Seg::Dropped { pid, first, pages })
     }
 
     /// Drops the images of a process.
@@ -78,7 +81,8 @@ impl Images {
         ensures images { OnOk result (images_in self.new ≡ without page_key (is_of pid.0) (images_in self.old)) }
         ensures err { OnErr result (self.new ≡ self.old) }
     {
-        self.append(Seg::Freed { pid })
+        let (start, end) = pages::process_span(self.pages.as_slice(), pid);
+        self.cut(start, end, Seg::Freed { pid })
     }
 
     /// Makes these the images of a region.
@@ -87,8 +91,10 @@ impl Images {
         ensures images { OnOk result (images_in self.new ≡ with_pages pid.0 region.0 pages.now (images_in self.old)) }
         ensures err { OnErr result (self.new ≡ self.old) }
     {
+        let mut images = pages::copied(self.alloc, self.pages.as_slice())?;
+        pages::reset(self.alloc, &mut images, pid, region, pages)?;
         let pages = Seq::from_vec(Vec::from_clones(self.alloc, pages)?);
-        self.append(Seg::Reset { pid, region, pages })
+        self.append(Seg::Reset { pid, region, pages }, images)
     }
 
     /// Makes the child's images of some regions the parent's, as `fork(2)` needs it.
@@ -133,17 +139,37 @@ impl Images {
         self.weight
     }
 
-    // Adds a segment.
-    fn append(&mut self, segment: Seg) -> Result<(), NoMemory>
+    // Adds a segment, given the images after it.
+    fn append(&mut self, segment: Seg, pages: Vec<Page>) -> Result<(), NoMemory>
+        requires { pages.items ≡ after_segment (images_in self.old) segment }
         ensures ok { OnOk result (self.new ≡ compacted (self.old ++ segment ∷ [])) }
-        ensures images { OnOk result (images_in self.new ≡ images_after (segment ∷ []) (images_in self.old)) }
+        ensures images { OnOk result (images_in self.new ≡ pages.items) }
         ensures err { OnErr result (self.new ≡ self.old) }
     {
-        let mut pages = pages::copied(self.alloc, self.pages.as_slice())?;
-        play(self.alloc, &mut pages, &segment)?;
         let mut segments = Vec::new(self.alloc);
         segments.push(segment)?;
         self.commit(segments, pages)
+    }
+
+    // Adds a segment that drops the images from one place to before another. The other images stay where they are.
+    fn cut(&mut self, start: usize, end: usize, segment: Seg) -> Result<(), NoMemory>
+        requires order { start ≤ end }
+        requires within { end ≤ length (images_in self.old) }
+        requires rest { after_segment (images_in self.old) segment ≡ take start (images_in self.old) ++ drop end (images_in self.old) }
+        ensures ok { OnOk result (self.new ≡ compacted (self.old ++ segment ∷ [])) }
+        ensures images { OnOk result (images_in self.new ≡ after_segment (images_in self.old) segment) }
+        ensures err { OnErr result (self.new ≡ self.old) }
+    {
+        let weight = weight_with(self.weight, &segment)?;
+        if is_heavy(weight, self.pages.len() - (end - start)) {
+            let mut pages = pages::copied(self.alloc, self.pages.as_slice())?;
+            pages::cut(&mut pages, start, end);
+            return self.make_anew(pages);
+        }
+        self.segments.push(segment)?;
+        pages::cut(&mut self.pages, start, end);
+        self.weight = weight;
+        Ok(())
     }
 
     // Adds segments, given the images after them.

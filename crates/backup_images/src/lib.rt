@@ -9,12 +9,15 @@ mod images;
 mod laws;
 mod page;
 mod pages;
-mod play;
+mod regions;
 mod segment;
 mod weight;
 
 pub use images::Images;
-pub use laws::{compacted_lists_are_light, compacted_lists_keep_their_images};
+pub use laws::{
+    a_batch_applied_twice_gives_the_images_of_once, compacted_lists_are_light,
+    compacted_lists_keep_their_images,
+};
 pub use segment::Seg;
 
 #[cfg(test)]

@@ -1,9 +1,11 @@
 //! The image of one page, whose bytes several lists share.
 
-ghost use Rattle.std.specs.Prelude.{◌≡◌, ◌+◌, ◌/◌, ◌==◌, ◌&&◌, IfOk, nat_le, nat_lt};
-ghost use Rattle.lego_base.specs.Keys.{is_below, key_at};
+ghost use Rattle.std.specs.Prelude.{◌≡◌, IfOk};
+ghost use Rattle.lego_base.specs.Keys.{is_below, is_of, is_page_from, is_page_of, key_at};
 ghost use Rattle.lego_msg.specs.Maps.{page_key};
+ghost use Rattle.backup_images.specs.Spans.{is_before_region};
 
+use keyed_list::Keyed;
 use lego_base::{Bytes, NoMemory, PageImage, Pid, RegionNo, Vpn};
 use std::alloc::{AllocError, Global};
 use std::marker::Model;
@@ -42,7 +44,7 @@ impl Page {
     }
 
     /// Whether it comes before a page.
-    pub(crate) fn is_below(&self, pid: Pid, vpn: Vpn) -> bool
+    pub(crate) fn is_before(&self, pid: Pid, vpn: Vpn) -> bool
         ensures { result ≡ is_below (page_key self.now) (key_at pid.0 vpn.0) }
     {
         if self.pid == pid {
@@ -52,30 +54,34 @@ impl Page {
         }
     }
 
-    /// Whether it is of a page.
-    pub(crate) fn is_at(&self, pid: Pid, vpn: Vpn) -> bool
-        ensures { result ≡ (self.now.pid.0 == pid.0 && self.now.vpn.0 == vpn.0) }
+    /// Whether its region comes before a region.
+    pub(crate) fn is_before_region(&self, pid: Pid, region: RegionNo) -> bool
+        ensures { result ≡ is_before_region pid.0 region.0 (page_key self.now) }
     {
-        self.pid == pid && self.vpn == vpn
+        if self.pid == pid {
+            self.vpn.0 / 512 < region.0
+        } else {
+            self.pid < pid
+        }
     }
 
     /// Whether it is of a process.
     pub(crate) fn is_of(&self, pid: Pid) -> bool
-        ensures { result ≡ (self.now.pid.0 == pid.0) }
+        ensures { result ≡ is_of pid.0 (page_key self.now) }
     {
         self.pid == pid
     }
 
     /// Whether it is of a region.
     pub(crate) fn is_in(&self, pid: Pid, region: RegionNo) -> bool
-        ensures { result ≡ (self.now.pid.0 == pid.0 && self.now.vpn.0 / 512 == region.0) }
+        ensures { result ≡ is_page_of pid.0 region.0 (page_key self.now) }
     {
         self.pid == pid && self.vpn.0 / 512 == region.0
     }
 
-    /// Whether it is of one of some pages.
+    /// Whether it is one of the `pages` pages starting at one.
     pub(crate) fn is_within(&self, pid: Pid, first: Vpn, pages: u64) -> bool
-        ensures { result ≡ (self.now.pid.0 == pid.0 && nat_le first.0 self.now.vpn.0 && nat_lt self.now.vpn.0 (first.0 + pages)) }
+        ensures { result ≡ is_page_from pid.0 first.0 pages (page_key self.now) }
     {
         self.pid == pid && self.vpn >= first && self.vpn.0 - first.0 < pages
     }
@@ -90,6 +96,20 @@ impl Page {
             vpn: self.vpn,
             bytes,
         })
+    }
+}
+
+impl Keyed for Page {
+    ghost use Rattle.lego_msg.specs.Maps.{page_key};
+
+    ghost key = { λ p. page_key p };
+
+    fn pid(&self) -> Pid {
+        self.pid
+    }
+
+    fn number(&self) -> u64 {
+        self.vpn.0
     }
 }
 

@@ -1,10 +1,10 @@
 //! Images of pages in rising order, as vectors.
 
-ghost use Rattle.std.specs.Prelude.{◌≡◌, ◌+◌, ◌^◌, ◌<◌, IfOk, MatchOption, None, OnOk, Some, length, map};
-ghost use Rattle.lego_base.specs.Keys.{Rises, is_of, is_page_from, is_page_of, key_at, put, put_all, without};
+ghost use Rattle.std.specs.Prelude.{◌≡◌, ◌+◌, ◌^◌, ◌<◌, ◌≤◌, ◌++◌, IfOk, MatchOption, None, OnOk, Some, drop, length, map, take};
+ghost use Rattle.lego_base.specs.Keys.{Rises, is_of, is_page_from, is_page_of, put, put_all};
 ghost use Rattle.lego_base.specs.Pieces.{laid_over};
 ghost use Rattle.lego_msg.specs.Maps.{for_child, overlaid, page_at, page_in, page_key, pages_of, patched, with_pages};
-ghost use Rattle.backup_images.specs.Places.{place_in};
+ghost use Rattle.backup_images.specs.Spans.{IsSpan};
 
 use crate::page::Page;
 use lego_base::{Bytes, NoMemory, PAGE_BYTES, PageImage, Patch, Pid, RegionNo, Vpn};
@@ -13,24 +13,13 @@ use std::alloc::Global;
 // Bytes of a page.
 const PAGE: usize = PAGE_BYTES as usize;
 
-// How many pages come before a page.
-fn place_of(pages: &[Page], pid: Pid, vpn: Vpn) -> usize
-    requires { Rises page_key pages.now }
-    ensures { result ≡ place_in (key_at pid.0 vpn.0) pages.now }
-{
-    pages.partition_point(|page| page.is_below(pid, vpn))
-}
-
 /// The bytes of a page, where it is there.
 pub(crate) fn find(pages: &[Page], pid: Pid, vpn: Vpn) -> Option<&[u8]>
     requires { Rises page_key pages.now }
     ensures { MatchOption result (page_in pages.now pid.0 vpn.0 ≡ None) (λ b. page_in pages.now pid.0 vpn.0 ≡ Some b.now) }
 {
-    let place = place_of(pages, pid, vpn);
-    if place < pages.len() && pages[place].is_at(pid, vpn) {
-        return Some(pages[place].bytes());
-    }
-    None
+    let page = keyed_list::get(pages, pid, vpn.0)?;
+    Some(page.bytes())
 }
 
 // Puts an image in its place.
@@ -45,13 +34,7 @@ fn put(
     ensures { OnOk result (pages.new.items ≡ put page_key (record { pid = pid; vpn = vpn; bytes = bytes }) pages.old.items) }
 {
     let page = Page::new(alloc, pid, vpn, bytes)?;
-    let place = place_of(pages, pid, vpn);
-    if place < pages.len() && pages[place].is_at(pid, vpn) {
-        pages[place] = page;
-        return Ok(());
-    }
-    pages.insert(place, page)?;
-    Ok(())
+    keyed_list::put(pages, page)
 }
 
 // Bytes with a piece laid over them.
@@ -106,25 +89,43 @@ pub(crate) fn lay_all(
     Ok(())
 }
 
-/// Drops some pages.
-pub(crate) fn drop_pages(pages: &mut Vec<Page>, pid: Pid, first: Vpn, count: u64)
-    ensures { pages.new.items ≡ without page_key (is_page_from pid.0 first.0 count) pages.old.items }
+/// Where some pages begin, and where those after them do.
+pub(crate) fn page_span(pages: &[Page], pid: Pid, first: Vpn, count: u64) -> (usize, usize)
+    requires { Rises page_key pages.now }
+    ensures { IsSpan (is_page_from pid.0 first.0 count) pages.now result.0 result.1 }
 {
-    pages.retain(|page| !page.is_within(pid, first, count));
+    let start = pages.partition_point(|page| page.is_before(pid, first));
+    let len = pages[start..].partition_point(|page| page.is_within(pid, first, count));
+    (start, start + len)
 }
 
-/// Drops the pages of a process.
-pub(crate) fn drop_process(pages: &mut Vec<Page>, pid: Pid)
-    ensures { pages.new.items ≡ without page_key (is_of pid.0) pages.old.items }
+/// Where the pages of a process begin, and where those after them do.
+pub(crate) fn process_span(pages: &[Page], pid: Pid) -> (usize, usize)
+    requires { Rises page_key pages.now }
+    ensures { IsSpan (is_of pid.0) pages.now result.0 result.1 }
 {
-    pages.retain(|page| !page.is_of(pid));
+    let start = pages.partition_point(|page| page.is_before(pid, Vpn(0)));
+    let len = pages[start..].partition_point(|page| page.is_of(pid));
+    (start, start + len)
 }
 
-// Drops the pages of a region.
-fn drop_region(pages: &mut Vec<Page>, pid: Pid, region: RegionNo)
-    ensures { pages.new.items ≡ without page_key (is_page_of pid.0 region.0) pages.old.items }
+// Where the pages of a region begin, and where those after them do.
+fn region_span(pages: &[Page], pid: Pid, region: RegionNo) -> (usize, usize)
+    requires { Rises page_key pages.now }
+    ensures { IsSpan (is_page_of pid.0 region.0) pages.now result.0 result.1 }
 {
-    pages.retain(|page| !page.is_in(pid, region));
+    let start = pages.partition_point(|page| page.is_before_region(pid, region));
+    let len = pages[start..].partition_point(|page| page.is_in(pid, region));
+    (start, start + len)
+}
+
+/// Drops the pages from one place to before another.
+pub(crate) fn cut(pages: &mut Vec<Page>, start: usize, end: usize)
+    requires order { start ≤ end }
+    requires within { end ≤ length pages.old.items }
+    ensures { pages.new.items ≡ take start pages.old.items ++ drop end pages.old.items }
+{
+    let _gone = pages.drain(start..end);
 }
 
 // Puts images in their places, in order.
@@ -149,7 +150,8 @@ pub(crate) fn reset(
     requires { Rises page_key pages.old.items }
     ensures { OnOk result (pages.new.items ≡ with_pages pid.0 region.0 images.now pages.old.items) }
 {
-    drop_region(pages, pid, region);
+    let (start, end) = region_span(pages, pid, region);
+    cut(pages, start, end);
     put_all(alloc, pages, images)
 }
 
@@ -161,18 +163,25 @@ pub(crate) fn images_as(
     region: RegionNo,
     child: Pid,
 ) -> Result<Vec<PageImage>, NoMemory>
+    requires { Rises page_key pages.now }
     ensures { IfOk result (λ v. v.items ≡ map (for_child child) (pages_of pid.0 region.0 pages.now)) }
 {
-    let mut images = Vec::new(alloc);
+    let (start, end) = region_span(pages, pid, region);
+    copies(alloc, &pages[start..end], child)
+}
+
+// Copies of images, as images of a process.
+fn copies(alloc: Global, pages: &[Page], child: Pid) -> Result<Vec<PageImage>, NoMemory>
+    ensures { IfOk result (λ v. v.items ≡ map (for_child child) pages.now) }
+{
+    let mut images = Vec::with_capacity(alloc, pages.len())?;
     for page in pages {
-        if page.is_in(pid, region) {
-            let image = page.image(alloc)?;
-            images.push(PageImage {
-                pid: child,
-                vpn: image.vpn,
-                bytes: image.bytes,
-            })?;
-        }
+        let image = page.image(alloc)?;
+        images.push(PageImage {
+            pid: child,
+            vpn: image.vpn,
+            bytes: image.bytes,
+        })?;
     }
     Ok(images)
 }

@@ -33,12 +33,21 @@ fn segments_are_made_anew_at_the_255th(rt: HostRuntime) -> Result<(), Fail> {
 fn a_child_gets_the_images_of_its_parent(rt: HostRuntime) -> Result<(), Fail> {
     let mut images = Images::new(rt.alloc())?;
     images.apply(whole_page(rt.alloc(), 16)?.as_slice())?;
-    images.copy_space(Pid(1), Pid(2), [RegionNo(0)].as_slice())?;
+    images.apply(whole_page(rt.alloc(), 600)?.as_slice())?;
+    images.copy_space(Pid(1), Pid(2), [RegionNo(0), RegionNo(1)].as_slice())?;
     images.drop_process(Pid(1))?;
-    images.drop_pages(Pid(2), Vpn(0), 16)?;
+    images.drop_pages(Pid(2), Vpn(17), 600)?;
     let pages = images.images_of(rt.alloc(), Pid(2), RegionNo(0))?;
-    assert_eq!(rt; pages.len(), 1);
-    images.reset(Pid(1), RegionNo(0), pages.as_slice())?;
-    assert_eq!(rt; images.segments().len(), 5);
+    let text = format!(in rt.alloc(); "{:?}", pages.as_slice())?;
+    assert!(rt;
+        text.as_str().starts_with(
+            "[PageImage { pid: Pid(2), vpn: Vpn(16), bytes: Bytes { items: [7, 7"
+        )
+    );
+    assert_eq!(rt; images.images_of(rt.alloc(), Pid(2), RegionNo(1))?.len(), 0);
+    assert_eq!(rt; images.images_of(rt.alloc(), Pid(1), RegionNo(0))?.len(), 0);
+    images.reset(Pid(2), RegionNo(0), &pages[..0])?;
+    assert_eq!(rt; images.images_of(rt.alloc(), Pid(2), RegionNo(0))?.len(), 0);
+    assert_eq!(rt; images.segments().len(), 7);
     Ok(())
 }

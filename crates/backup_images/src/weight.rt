@@ -49,13 +49,20 @@ fn weight_of(segment: &Seg) -> Result<u64, NoMemory>
     }
 }
 
+/// What a segment weighs after others that weigh `before`.
+pub(crate) fn weight_with(before: u64, segment: &Seg) -> Result<u64, NoMemory>
+    ensures { IfOk result (λ n. n ≡ before + weight_of segment.now) }
+{
+    sum(before, weight_of(segment)?)
+}
+
 /// What segments weigh after others that weigh `before`.
 pub(crate) fn weights(before: u64, segments: &[Seg]) -> Result<u64, NoMemory>
     ensures { IfOk result (λ n. n ≡ before + weights segments.now) }
 {
     let mut weight = before;
     for segment in segments {
-        weight = sum(weight, weight_of(segment)?)?;
+        weight = weight_with(weight, segment)?;
     }
     Ok(weight)
 }

@@ -1,4 +1,4 @@
-//! Files with names, in a store of so many blocks.
+//! Files with names, in a store with a number of blocks.
 
 ghost use Rattle.std.specs.Prelude.{◌≡◌, ◌+◌, ◌-◌, ◌^◌, ◌≤◌, ◌<◌, length, true, IfOk, MatchOption};
 ghost use Rattle.lego_base.specs.Files.{file_bytes, is_file, named, with_file_bytes};
@@ -64,7 +64,7 @@ impl Files {
     }
 
     /// The file with a name, which is made, empty, where there is none: as `open(2)` with `O_CREAT` does. `NoRoom` exactly
-    /// where there are 1024 files already. Where all numbers were given out, that counts as lack of memory.
+    /// where there are 1024 files already. Where all numbers were given out, that counts as out of memory.
     pub fn make(&mut self, name: &[u8]) -> Result<FileNo, FileFault>
         ensures { IsMade self.old self.new name.now result }
     {

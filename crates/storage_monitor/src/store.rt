@@ -1,6 +1,6 @@
 //! The storage component.
 
-ghost use Rattle.std.specs.Prelude.{◌≡◌, ◌≤◌, ◌++◌, IfOk, OnOk, length, true};
+ghost use Rattle.std.specs.Prelude.{◌≡◌, ◌≤◌, ◌++◌, IfOk, OnOk, false, length, true};
 ghost use Rattle.lego_base.specs.Files.{is_file};
 ghost use Rattle.lego_base.specs.declared.sizes.TheConstants.{LONGEST_FILE};
 ghost use Rattle.lego_msg.specs.Form.{HasFile, InForm, IsInBlock};
@@ -33,7 +33,7 @@ impl Model for Store {
 }
 
 impl Store {
-    ghost use Rattle.storage_monitor.specs.Answered.{sent};
+    ghost use Rattle.storage_monitor.specs.Answered.{is_about_images, sent};
 
     /// Storage without images and files, with this many blocks of 4096 bytes for files.
     pub fn new(alloc: Global, blocks: u32) -> Result<Store, NoMemory>
@@ -44,7 +44,8 @@ impl Store {
         Ok(Store { images, files })
     }
 
-    /// Handles a message by the message table; what is sent goes to the end of `out`. After lack of memory nothing is known.
+    /// Handles a message by the message table; what is sent goes to the end of `out`. If memory runs out, nothing is known of
+    /// the store any more.
     pub fn handle(&mut self, alloc: Global, m: Message, out: &mut Outbox) -> Result<(), NoMemory>
         requires form { InForm m.body }
         requires there { HasFile self.old m.body }
@@ -62,7 +63,14 @@ impl Store {
         })
     }
 
-    // Does what a message asks for, and gives the answer.
+    /// Whether a file is there, which requests for its size or its bytes need.
+    pub fn has_file(&self, file: FileNo) -> bool
+        ensures { result ≡ is_file self.now.files.files file.0 }
+    {
+        self.files.has(file)
+    }
+
+    // Does what a message asks for, and gives the answer. These are the rows of images.
     fn act(&mut self, alloc: Global, m: &Message) -> Result<Option<Reply>, NoMemory>
         requires form { InForm m.now.body }
         requires there { HasFile self.old m.now.body }
@@ -81,6 +89,18 @@ impl Store {
             Body::ResetImages { pid, region, pages } => {
                 self.reset_images(m, *pid, *region, pages.as_slice())
             }
+            _ => self.act_on_files(alloc, m),
+        }
+    }
+
+    // The rows of files and names. A message without a row changes nothing, and nothing is sent.
+    fn act_on_files(&mut self, alloc: Global, m: &Message) -> Result<Option<Reply>, NoMemory>
+        requires files { is_about_images m.now.body ≡ false }
+        requires form { InForm m.now.body }
+        requires there { HasFile self.old m.now.body }
+        ensures { IfOk result (λ a. (self.new, sent m.now a) ≡ stored self.old m.now) }
+    {
+        match &m.body {
             Body::BlockGet {
                 file,
                 block,
@@ -178,47 +198,6 @@ impl Store {
         says(m, Body::Done)
     }
 
-    // The size of a file is given.
-    fn file_size(&mut self, m: &Message, file: FileNo) -> Result<Option<Reply>, NoMemory>
-        requires { is_file self.old.files.files file.0 ≡ true }
-        ensures { IfOk result (λ a. (self.new, sent m.now a) ≡ file_size_row self.old m.now file.0) }
-    {
-        let size = self.files.size(file);
-        says(m, Body::SizeIs { size })
-    }
-
-    // A name is looked up.
-    fn name_get(&mut self, m: &Message, name: &[u8]) -> Result<Option<Reply>, NoMemory>
-        ensures { IfOk result (λ a. (self.new, sent m.now a) ≡ name_get_row self.old m.now name.now) }
-    {
-        let file = self.files.find(name);
-        says(m, Body::NameIs { file })
-    }
-
-    // A name is removed.
-    fn name_cut(&mut self, m: &Message, name: &[u8]) -> Result<Option<Reply>, NoMemory>
-        ensures { IfOk result (λ a. (self.new, sent m.now a) ≡ name_cut_row self.old m.now name.now) }
-    {
-        self.files.unlink(name);
-        says(m, Body::Done)
-    }
-
-    // All names are given.
-    fn name_all(&mut self, alloc: Global, m: &Message) -> Result<Option<Reply>, NoMemory>
-        ensures { IfOk result (λ a. (self.new, sent m.now a) ≡ name_all_row self.old m.now) }
-    {
-        let list = Seq::from_vec(self.files.names(alloc)?);
-        says(m, Body::Names { list })
-    }
-
-    // A file without a name is removed.
-    fn file_free(&mut self, m: &Message, file: FileNo) -> Result<Option<Reply>, NoMemory>
-        ensures { IfOk result (λ a. (self.new, sent m.now a) ≡ file_free_row self.old m.now file.0) }
-    {
-        self.files.free(file);
-        says(m, Body::Done)
-    }
-
     // A block of a file is given.
     fn block_get(
         &mut self,
@@ -287,6 +266,23 @@ impl Store {
         }
     }
 
+    // The size of a file is given.
+    fn file_size(&mut self, m: &Message, file: FileNo) -> Result<Option<Reply>, NoMemory>
+        requires { is_file self.old.files.files file.0 ≡ true }
+        ensures { IfOk result (λ a. (self.new, sent m.now a) ≡ file_size_row self.old m.now file.0) }
+    {
+        let size = self.files.size(file);
+        says(m, Body::SizeIs { size })
+    }
+
+    // A name is looked up.
+    fn name_get(&mut self, m: &Message, name: &[u8]) -> Result<Option<Reply>, NoMemory>
+        ensures { IfOk result (λ a. (self.new, sent m.now a) ≡ name_get_row self.old m.now name.now) }
+    {
+        let file = self.files.find(name);
+        says(m, Body::NameIs { file })
+    }
+
     // The file with a name, which is made where there is none and there is room for it.
     fn name_make(&mut self, m: &Message, name: &[u8]) -> Result<Option<Reply>, NoMemory>
         ensures { IfOk result (λ a. (self.new, sent m.now a) ≡ name_make_row self.old m.now name.now) }
@@ -296,5 +292,29 @@ impl Store {
             Err(FileFault::NoRoom) => says(m, Body::Refused(Why::NoRoom)),
             Err(_) => Err(NoMemory),
         }
+    }
+
+    // A name is removed.
+    fn name_cut(&mut self, m: &Message, name: &[u8]) -> Result<Option<Reply>, NoMemory>
+        ensures { IfOk result (λ a. (self.new, sent m.now a) ≡ name_cut_row self.old m.now name.now) }
+    {
+        self.files.unlink(name);
+        says(m, Body::Done)
+    }
+
+    // All names are given.
+    fn name_all(&mut self, alloc: Global, m: &Message) -> Result<Option<Reply>, NoMemory>
+        ensures { IfOk result (λ a. (self.new, sent m.now a) ≡ name_all_row self.old m.now) }
+    {
+        let list = Seq::from_vec(self.files.names(alloc)?);
+        says(m, Body::Names { list })
+    }
+
+    // A file without a name is removed.
+    fn file_free(&mut self, m: &Message, file: FileNo) -> Result<Option<Reply>, NoMemory>
+        ensures { IfOk result (λ a. (self.new, sent m.now a) ≡ file_free_row self.old m.now file.0) }
+    {
+        self.files.free(file);
+        says(m, Body::Done)
     }
 }
