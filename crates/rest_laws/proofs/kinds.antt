@@ -1,0 +1,10 @@
+pub mod Kind
+pub mod Asking
+pub mod Cells
+pub mod Twice
+pub mod Setting
+pub mod Filing
+pub mod Names
+pub mod Logging
+pub mod Draining
+pub mod Writing
