@@ -203,7 +203,7 @@ patch_fit n owners f patch owner fit fits = record {
 -- AN UNMAPPING
 
 -- a page of the range is of the region
-in_region : (pid region first pages p vpn : ℕ) → region * 512 ≤ first → first + pages ≤ region * 512 + 512 → is_page_from pid first pages (key_at p vpn) ≡ true → (p ≡ pid) × (vpn / 512 ≡ region)
+pub in_region : (pid region first pages p vpn : ℕ) → region * 512 ≤ first → first + pages ≤ region * 512 + 512 → is_page_from pid first pages (key_at p vpn) ≡ true → (p ≡ pid) × (vpn / 512 ≡ region)
 in_region pid region first pages p vpn low high inside =
     let outer = both_true (eqb p pid && leb first vpn) (ltb vpn (first + pages)) inside in
     let inner = both_true (eqb p pid) (leb first vpn) outer.0 in

@@ -8,3 +8,6 @@ pub mod Names
 pub mod Logging
 pub mod Draining
 pub mod Writing
+pub mod Images
+pub mod Unmapping
+pub mod Spaces

@@ -1,9 +1,9 @@
 -- Cells that a row sets, and lists that stay in form.
-use Rattle.std.proofs.Common.{◌≡◌, ◌⊎◌, ◌<◌, ◌==◌, ◌&&◌, ◌||◌, [], ◌∷◌, ◌∙◌, ℕ, Bool, List, None, Option, Some, ap, arith, cond, false, inl, inr, length, not, refl, sym, true}
+use Rattle.std.proofs.Common.{◌≡◌, ◌⊎◌, ◌<◌, ◌≤◌, ◌==◌, ◌&&◌, ◌||◌, [], ◌∷◌, ◌∙◌, ℕ, Bool, List, None, Option, Some, ap, arith, cond, false, inl, inr, length, not, refl, sym, true}
 use Rattle.std.proofs.Math.Nat.{mod-lt}
 use Rattle.std.proofs.lemmas.Bool.{eqb-true}
 use Rattle.std.specs.List.{AllByRecursion}
-use Rattle.keyed_list.proofs.Listed.{Rises-put, Rises-without, find-put}
+use Rattle.keyed_list.proofs.Listed.{Rises-put, Rises-without, find-put, find-without}
 use Rattle.lego_base.specs.Keys.{Key, Rises, find, is_at, is_below, key_at, put, same_key, those, without}
 use Rattle.lego_base.specs.declared.ids.MemId.{MemId}
 use Rattle.lego_base.specs.declared.ids.Pid.{Pid}
@@ -13,8 +13,8 @@ use Rattle.lego_base.specs.declared.records.HomeEntry.{HomeEntry}
 use Rattle.lego_base.specs.declared.records.PageImage.{PageImage}
 use Rattle.lego_base.specs.declared.records.SpaceAreas.{SpaceAreas}
 use Rattle.lego_msg.specs.Form.{IsRegionList}
-use Rattle.lego_msg.specs.Maps.{areas_key, home_key, image_bytes, owner_in, owner_of, page_in, page_key, with_areas}
-use Rattle.lego_rest.specs.Fits.{ListFits}
+use Rattle.lego_msg.specs.Maps.{areas_at, areas_in, areas_key, home_key, image_bytes, owner_in, owner_of, page_in, page_key, with_areas}
+use Rattle.lego_rest.specs.Fits.{ListFits, PagesFit}
 use Rattle.lego_rest.specs.Parts.{owns}
 use Rattle.rest_laws.proofs.Truth.{both_true, not_zero}
 use Rattle.rest_laws.proofs.kinds.Asking.{owner_owns}
@@ -25,6 +25,13 @@ set_cell true true value was old nothing kept either = refl
 set_cell true false value was old nothing kept either = let both : false ≡ true = kept refl in cc both
 set_cell false keep value was old nothing kept (inl e) = e
 set_cell false keep value was old nothing kept (inr e) = e
+
+-- A CELL THAT GOES: where the test holds nothing is there any more, whoever keeps it
+pub gone_cell : {X : Type 0} (test keep : Bool) (was old nothing : X) → (was ≡ cond keep old nothing) ⊎ (was ≡ cond keep (cond test nothing old) nothing) → cond test nothing was ≡ cond keep (cond test nothing old) nothing
+gone_cell true true was old nothing either = refl
+gone_cell true false was old nothing either = refl
+gone_cell false keep was old nothing (inl e) = e
+gone_cell false keep was old nothing (inr e) = e
 
 -- a cell of which the old and the new agree
 pub agreed : {X : Type 0} (held old new : X) → old ≡ new → (held ≡ old) ⊎ (held ≡ new) → held ≡ new
@@ -82,3 +89,39 @@ found_whole (p ∷ pages) pid vpn all bytes is = by (same_key (page_key p) (key_
     by : (b : Bool) → image_bytes (cond b (Some p) (find page_key (key_at pid vpn) pages)) ≡ Some bytes → (page_in pages pid vpn ≡ Some bytes → length bytes ≡ 4096) → length bytes ≡ 4096
     by true is rest = ap length (sym (same_some p.bytes bytes is)) ∙ all.0
     by false is rest = rest is
+
+-- WHAT IS TAKEN OUT
+pub page_without : (test : Key → Bool) (pages : List PageImage) (p vpn : ℕ) → page_in (without page_key test pages) p vpn ≡ cond (test (key_at p vpn)) None (page_in pages p vpn)
+page_without test pages p vpn = ap image_bytes (find-without page_key test pages (key_at p vpn)) ∙ either (test (key_at p vpn)) (find page_key (key_at p vpn) pages)
+  where
+    either : (b : Bool) (o : Option PageImage) → image_bytes (cond b None o) ≡ cond b None (image_bytes o)
+    either true o = refl
+    either false o = refl
+
+pub owner_without : (test : Key → Bool) (homes : List HomeEntry) (p r : ℕ) → owner_of (without home_key test homes) p r ≡ cond (test (key_at p r)) None (owner_of homes p r)
+owner_without test homes p r = ap owner_in (find-without home_key test homes (key_at p r)) ∙ either (test (key_at p r)) (find home_key (key_at p r) homes)
+  where
+    either : (b : Bool) (o : Option HomeEntry) → owner_in (cond b None o) ≡ cond b None (owner_in o)
+    either true o = refl
+    either false o = refl
+
+pub areas_without : (test : Key → Bool) (lists : List SpaceAreas) (p r : ℕ) → areas_at (without areas_key test lists) p r ≡ cond (test (key_at p r)) [] (areas_at lists p r)
+areas_without test lists p r = ap areas_in (find-without areas_key test lists (key_at p r)) ∙ either (test (key_at p r)) (find areas_key (key_at p r) lists)
+  where
+    either : (b : Bool) (o : Option SpaceAreas) → areas_in (cond b None o) ≡ cond b [] (areas_in o)
+    either true o = refl
+    either false o = refl
+
+pub fewer_those : {X : Type 0} (key : X → Key) (test : Key → Bool) (xs : List X) → length (those key test xs) ≤ length xs
+fewer_those key test [] = omega arith
+fewer_those key test (x ∷ xs) = by (test (key x)) (fewer_those key test xs)
+  where
+    by : (b : Bool) → length (those key test xs) ≤ length xs → length (cond b (x ∷ those key test xs) (those key test xs)) ≤ length (x ∷ xs)
+    by true less = omega (arith, less)
+    by false less = omega (arith, less)
+
+pub fewer_pages : (test : Key → Bool) (pages : List PageImage) (frames : ℕ) → length pages ≤ frames → length (without page_key test pages) ≤ frames
+fewer_pages test pages frames most = let less : length (without page_key test pages) ≤ length pages = fewer_those page_key (λ (k : Key). not (test k)) pages in omega (arith, less, most)
+
+pub pages_left_fit : (test : Key → Bool) (pages : List PageImage) → PagesFit pages → PagesFit (without page_key test pages)
+pages_left_fit test pages fits = record { rise = Rises-without page_key test pages fits.rise; whole = all_those page_key (λ (p : PageImage). length p.bytes ≡ 4096) (λ (k : Key). not (test k)) pages fits.whole }
