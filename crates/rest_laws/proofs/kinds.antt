@@ -11,3 +11,6 @@ pub mod Writing
 pub mod Images
 pub mod Unmapping
 pub mod Spaces
+pub mod Copied
+pub mod Copies
+pub mod Naming
