@@ -17,7 +17,7 @@ use Rattle.lego_msg.specs.Plain.{IsMapped, Plain, touched}
 use Rattle.lego_msg.specs.State.{Mem}
 use Rattle.lego_msg.specs.Track.{Track, memory_count}
 use Rattle.lego_msg.specs.declared.operation.Operation.{Operation}
-use Rattle.lego_msg.specs.declared.operation.Operation.TheVariants.{AsksAreas, AsksSize, Copies, CutsFile, Drops, Reads, ReadsFile, SetsAreas, SetsHome, Unmaps, Writes, WritesFile}
+use Rattle.lego_msg.specs.declared.operation.Operation.TheVariants.{AsksAreas, AsksSize, Copies, CutsFile, Drains, Drops, Heals, Reads, ReadsFile, SetsAreas, SetsHome, Unmaps, Writes, WritesFile}
 use Rattle.lego_msg.specs.declared.place.Place.{Place}
 
 -- a patch has bytes, and they lie in its page
@@ -83,11 +83,18 @@ asks_clear other pid vpn = false
 abbrev pub IsClear : Operation → List Patch → Type 0
 IsClear operation log = AllByRecursion (λ (p : Patch). asks_clear operation p.pid.0 p.vpn.0 ≡ false) log
 
+-- A drain is of a memory that is there; the messages of a healing are nobody's to call for.
+abbrev pub IsThere : ℕ → Operation → Type 0
+IsThere n (Drains m) = m.0 < n
+IsThere n (Heals to what) = ⊥
+IsThere n other = Unit {0}
+
 -- An operation is granted where the table of owners becomes `owners` with it: only regions without an owner get one.
 pub record Granted (t : Track) (by : Place) (operation : Operation) (owners : List HomeEntry) : Type 0 where
   pub issuer : is_issuer by ≡ true
   pub grow : (pid region : ℕ) (o : MemId) → owner_of t.owners pid region ≡ Some o → owner_of owners pid region ≡ Some o
   pub within : (pid region : ℕ) (o : MemId) → owner_of owners pid region ≡ Some o → o.0 < memory_count t.shape
   pub rise : Rises home_key owners
+  pub there : IsThere (memory_count t.shape) operation
   pub fits : OpFits owners t.plain operation
   pub clear : (m : ℕ) (s : Mem) → slice_get t.mems m ≡ Some s → IsClear operation s.log
