@@ -4,4 +4,5 @@ pub mod Showing
 pub mod Owning
 pub mod Wholes
 pub mod Blocks
+pub mod Areas
 pub mod rows
