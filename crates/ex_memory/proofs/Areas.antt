@@ -1,11 +1,11 @@
 -- What the owners of a process's regions answer, one after the other, is the areas of the process.
-use Rattle.std.proofs.Common.{◌≡◌, ℕ, ◌+◌, ◌*◌, ◌/◌, ◌≤◌, ◌<◌, ◌⊎◌, inl, inr, Bool, true, false, eqb, ◌||◌, refl, sym, ◌∙◌, ap, List, [], ◌∷◌, ◌++◌, Option, Some, None, IsSome, arith}
+use Rattle.std.proofs.Common.{◌≡◌, ℕ, ◌+◌, ◌*◌, ◌/◌, ◌≤◌, inl, inr, Bool, true, false, eqb, ◌||◌, refl, sym, ◌∙◌, ap, List, [], ◌∷◌, Option, Some, None, arith}
 use Rattle.std.proofs.lemmas.Bool.{cases_lt, cases_eq, eqb-true}
 use Rattle.lego_base.specs.declared.perms.Perms.{Perms}
 use Rattle.lego_base.specs.declared.records.Area.{Area}
 use Rattle.lego_base.specs.declared.sizes.TheConstants.{PAGES_END}
 use Rattle.lego_base.specs.Space.{perms_of}
-use Rattle.area_list.specs.Runs.{IsCanonical, above, below, joined}
+use Rattle.area_list.specs.Runs.{IsCanonical, below, joined}
 use Rattle.area_list.proofs.Canonical.{IsWithin, within-append, within-below, within-above, canonical-within, canonical-joined}
 use Rattle.area_list.proofs.Pages.{either, either-none, perms-append, perms-joined, above-in, above-out, below-in, below-out}
 use Rattle.area_list.proofs.Unique.{perms-before, unique}

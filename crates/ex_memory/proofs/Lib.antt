@@ -5,4 +5,6 @@ pub mod Owning
 pub mod Wholes
 pub mod Blocks
 pub mod Areas
+pub mod Owners
+pub mod Mapped
 pub mod rows

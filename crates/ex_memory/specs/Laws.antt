@@ -1,7 +1,8 @@
 -- What a reader may ask of the script.
-use Rattle.std.specs.Prelude.{◌≡◌, ◌==◌, ◌<◌, ◌≤◌, ◌+◌, ◌*◌, ◌/◌, ◌||◌, ℕ, Bool, false, true, List, [], ◌∷◌, ◌++◌, Some, length}
+use Rattle.std.specs.Prelude.{◌≡◌, ◌==◌, ◌<◌, ◌≤◌, ◌+◌, ◌*◌, ◌/◌, ◌||◌, ℕ, Bool, false, true, List, [], ◌∷◌, ◌++◌, Some, is_some, length}
 use Rattle.lego_base.specs.declared.perms.Perms.{Perms}
 use Rattle.lego_base.specs.declared.records.Area.{Area}
+use Rattle.lego_base.specs.declared.shape.Shape.{Shape}
 use Rattle.lego_base.specs.declared.sizes.TheConstants.{PAGES_END}
 use Rattle.lego_base.specs.Files.{file_bytes, with_file_bytes}
 use Rattle.lego_base.specs.Pieces.{written_at}
@@ -15,7 +16,7 @@ use Rattle.linux_model.specs.Effects.{Effect, Kind, Store, CopyOut, Writes, Maps
 use Rattle.linux_model.specs.State.{Kernel}
 use Rattle.linux_model.specs.Held.{held_in, held_after}
 use Rattle.ex_memory.specs.Cuts.{BLOCK, Chunk, chunks}
-use Rattle.ex_memory.specs.Now.{Now, pid_no}
+use Rattle.ex_memory.specs.Now.{Now, at_start, pid_no, page_owner, space_of}
 use Rattle.ex_memory.specs.Touches.{write_parts, refused_parts, walked}
 use Rattle.ex_memory.specs.Regions.{part_in, placings}
 use Rattle.ex_memory.specs.Script.{script, passed, all_passed, writes_block}
@@ -97,3 +98,13 @@ HoldsAll regions areas = (page : ℕ) (perms : Perms) → perms_of areas page �
 -- Where all regions with a mapped page are asked, in rising order, their answers make the areas of the process.
 abbrev pub AskedAreasAreAll : Type 0
 AskedAreasAreAll = (regions : List ℕ) (areas : List Area) → IsCanonical areas → RegionsRise 0 regions → HoldsAll regions areas → joined [] (answered regions areas) ≡ areas
+
+-- ---- every mapped page has an owner
+
+-- After whatever effects from the start, the region of each page that a process has mapped has an owner. So a touch of a
+-- mapped page names whom to read from, and a fill whom to write to.
+abbrev pub MappedIsOwned : Type 0
+MappedIsOwned =
+    (shape : Shape) (es : List Effect) (pid page : ℕ)
+    → is_some (perms_of (space_of (all_passed (at_start shape) es) pid).areas page) ≡ true
+    → is_some (page_owner (all_passed (at_start shape) es) pid page) ≡ true

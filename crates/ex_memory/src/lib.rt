@@ -6,7 +6,7 @@
 //! contracts.
 #![tactic(auto)]
 
-ghost use Rattle.ex_memory.specs.Laws.{AskedAreasAreAll, BlocksMakeTheFile, OwnersGoByTurns, PartsMakeTheWhole, ScriptGoesWithTheKernel, ScriptShowsTheFlatRun, ScriptsJoin};
+ghost use Rattle.ex_memory.specs.Laws.{AskedAreasAreAll, BlocksMakeTheFile, MappedIsOwned, OwnersGoByTurns, PartsMakeTheWhole, ScriptGoesWithTheKernel, ScriptShowsTheFlatRun, ScriptsJoin};
 
 /// The script of effects and then of others is the one and then the other.
 pub fn scripts_join()
@@ -42,4 +42,9 @@ pub fn owners_go_by_turns()
 /// Where all regions with a mapped page are asked, their answers make the areas of the process.
 pub fn asked_areas_are_all()
     ensures { AskedAreasAreAll }
+{}
+
+/// The region of each mapped page has an owner, at every moment of every run.
+pub fn what_is_mapped_is_owned()
+    ensures { MappedIsOwned }
 {}
