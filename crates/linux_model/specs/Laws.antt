@@ -10,7 +10,7 @@ use Rattle.linux_model.specs.Paths.{text_at}
 use Rattle.linux_model.specs.ProcessCalls.{list_at}
 use Rattle.linux_model.specs.Loading.{loads_program, start_space}
 use Rattle.linux_model.specs.Boot.{boot_of, file_effects, booted_process, streams}
-use Rattle.linux_model.specs.Held.{held_in, held_after_all}
+use Rattle.linux_model.specs.Held.{Held, held_in, held_after, held_after_all, is_apart}
 use Rattle.linux_model.specs.Turns.{Schedule, flat, flat_effects, is_over}
 
 -- the run is what its effects, one after the other, make of the kernel that was booted
@@ -59,3 +59,7 @@ pub record LookingIsStill : Type 0 where
 -- What effects make of spaces and files depends on spaces and files alone.
 abbrev pub HeldGoesAlone : Type 0
 HeldGoesAlone = (es : List Effect) (k : Kernel) → held_in (applies es k) ≡ held_after_all es (held_in k)
+
+-- What is the manager's alone changes nothing of them.
+abbrev pub ApartStays : Type 0
+ApartStays = (e : Effect) (h : Held) → is_apart e ≡ true → held_after e h ≡ h
