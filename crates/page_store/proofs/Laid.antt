@@ -12,7 +12,7 @@ use Rattle.lego_base.specs.declared.records.PageImage.{PageImage}
 use Rattle.lego_base.specs.declared.records.Patch.{Patch}
 use Rattle.keyed_list.proofs.Order.{same_is}
 use Rattle.lego_msg.specs.Form.{IsWithinPage}
-use Rattle.lego_msg.specs.Maps.{bytes_or_zeros, image_bytes, page_at, page_key, patched}
+use Rattle.lego_msg.specs.Maps.{bytes_or_zeros, image_bytes, page_at, page_in, page_key, patched}
 use Rattle.page_store.proofs.Changes.{Stays, held-put, held-written, held_stay, images-put, images-written, images_stay}
 use Rattle.page_store.proofs.Places.{find-images, frames_differ, held_some, length-images, length-put_new}
 use Rattle.page_store.specs.Spots.{AreHeld, IsHeld, IsPageOf, IsTied, bytes_in, image, images, laid, page_image, spot_key}
@@ -146,3 +146,14 @@ whole_over old bytes long all =
 
 pub whole_is : (frames : List (Option Page)) (spots : List Spot) (pid : Pid) (vpn : Vpn) (bytes : List ℕ) → AreHeld frames spots → length bytes ≡ 4096 → patched (patch_of pid vpn 0 bytes) (images frames spots) ≡ put page_key (page_image pid vpn bytes) (images frames spots)
 whole_is frames spots pid vpn bytes held all = ap (λ (b : List ℕ). put page_key (page_image pid vpn b) (images frames spots)) (whole_over (page_at (images frames spots) pid.0 vpn.0) bytes (length_page frames spots pid.0 vpn.0 held) all)
+
+-- the bytes of a page, where it is present
+pub page_in_frame : (frames : List (Option Page)) (spots : List Spot) (pid vpn : ℕ) (s : Spot) → find spot_key (key_at pid vpn) spots ≡ Some s → page_in (images frames spots) pid vpn ≡ Some (bytes_in (get_or frames s.frame None))
+page_in_frame frames spots pid vpn s found = ap image_bytes (find-images frames spots (key_at pid vpn) ∙ ap (option_map (image frames)) found)
+
+pub page_in_none : (frames : List (Option Page)) (spots : List Spot) (pid vpn : ℕ) → find spot_key (key_at pid vpn) spots ≡ None → page_in (images frames spots) pid vpn ≡ None
+page_in_none frames spots pid vpn absent = ap image_bytes (find-images frames spots (key_at pid vpn) ∙ ap (option_map (image frames)) absent)
+
+pub held_whole : (s : Spot) (o : Option Page) → IsPageOf s o → length (bytes_in o) ≡ 4096
+held_whole s None held = absurd held
+held_whole s (Some page) held = held.2
