@@ -1,10 +1,10 @@
 -- A patch laid over a page that is present, and a page that is added.
-use Rattle.std.proofs.Common.{◌≡◌, ◌≢◌, ◌⊎◌, ◌+◌, ◌-◌, ◌<◌, ◌≤◌, ◌++◌, [], ◌∷◌, ◌∙◌, ℕ, Bool, List, None, Option, Some, ap, arith, cond, count_by, drop, false, get_or, inl, inr, is_some, length, refl, replicate, set, subst, suc, sym, take, true}
+use Rattle.std.proofs.Common.{◌≡◌, ◌≢◌, ◌+◌, ◌-◌, ◌<◌, ◌≤◌, ◌++◌, [], ◌∷◌, ◌∙◌, ℕ, Bool, List, None, Option, Some, ap, arith, cond, drop, false, get_or, inl, inr, length, refl, replicate, set, subst, suc, sym, take, true}
 use Rattle.std.specs.List.{AllByRecursion}
 use Rattle.std.specs.Option.{option_map}
 use Rattle.std.proofs.lemmas.Bool.{cases_lt}
 use Rattle.std.proofs.lemmas.List.{append-nil, drop-replicate, drop_all, get_or-set_other, get_or-set_same, get_or_past, length-append, length-drop, length-replicate, length-take, take-replicate}
-use Rattle.lego_base.specs.Keys.{Key, Rises, find, is_below, key_at, put, same_key}
+use Rattle.lego_base.specs.Keys.{Key, find, is_below, key_at, put, same_key}
 use Rattle.lego_base.specs.Pieces.{laid_over, zeros}
 use Rattle.lego_base.specs.declared.ids.Pid.{Pid}
 use Rattle.lego_base.specs.declared.ids.Vpn.{Vpn}
@@ -13,7 +13,7 @@ use Rattle.lego_base.specs.declared.records.Patch.{Patch}
 use Rattle.keyed_list.proofs.Order.{same_is}
 use Rattle.lego_msg.specs.Form.{IsWithinPage}
 use Rattle.lego_msg.specs.Maps.{bytes_or_zeros, image_bytes, page_at, page_in, page_key, patched}
-use Rattle.page_store.proofs.Changes.{Stays, held-put, held-written, held_stay, images-put, images-written, images_stay}
+use Rattle.page_store.proofs.Changes.{held-put, held-written, held_stay, images-put, images-written, images_stay}
 use Rattle.page_store.proofs.Places.{find-images, frames_differ, held_some, length-images, length-put_new}
 use Rattle.page_store.specs.Spots.{AreHeld, IsHeld, IsPageOf, IsTied, bytes_in, image, images, laid, page_image, spot_key}
 use Rattle.page_store.specs.Store.{patch_of}

@@ -1,7 +1,6 @@
-use Rattle.std.proofs.Common.{◌≡◌, ◌+◌, ◌*◌, ◌/◌, ◌%◌, ◌<◌, ◌≤◌, ◌∙◌, List, None, Option, ap, arith, drop, mod-lt, replicate, subst, sym, take, ℕ}
+use Rattle.std.proofs.Common.{◌≡◌, ◌*◌, ◌%◌, ◌<◌, ◌∙◌, List, Option, ap, arith, drop, mod-lt, subst, sym, take, ℕ}
 use Rattle.std.specs.Prelude.{IfOk}
-use Rattle.lego_base.specs.Pieces.{zeros}
-use Rattle.lego_msg.specs.Maps.{bytes_or_zeros, page_at}
+use Rattle.lego_msg.specs.Maps.{bytes_or_zeros}
 use Rattle.page_store.proofs.Laid.{zeros_piece}
 use Rattle.mem_monitor.proofs.page_rows.line_of.Goals as goal
 

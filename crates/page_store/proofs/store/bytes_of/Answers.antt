@@ -1,9 +1,8 @@
-use Rattle.std.proofs.Common.{◌≡◌, ◌∙◌, List, None, Option, Some, ap, get_or, length, refl, sym, ℕ}
+use Rattle.std.proofs.Common.{◌∙◌, List, None, Some, ap, get_or, length, refl, sym, ℕ}
 use Rattle.lego_base.specs.Keys.{find, key_at}
 use Rattle.page_store.proofs.Laid.{found_held, held_whole, page_in_frame, page_in_none, slot_of}
 use Rattle.page_store.proofs.Owned.{from_frame, from_none}
 use Rattle.page_store.specs.Spots.{bytes_in, spot_key}
-use Rattle.page_store.specs.declared.frames.Page.{Page}
 use Rattle.page_store.proofs.store.bytes_of.Goals as goal
 
 pub bytes-requires : goal.bytes-requires
