@@ -3,13 +3,15 @@ use Rattle.std.specs.List.{AllByRecursion}
 use Rattle.std.specs.Prelude.{◌≡◌, ◌+◌, ◌*◌, ◌/◌, ◌<◌, ◌≤◌, ◌==◌, ◌&&◌, [], ◌∷◌, ℕ, Bool, List, false, length, true}
 use Rattle.lego_base.specs.Files.{is_file}
 use Rattle.lego_base.specs.Keys.{Key, same_key}
+use Rattle.lego_base.specs.declared.ids.RegionNo.{RegionNo}
 use Rattle.lego_base.specs.declared.records.Area.{Area}
 use Rattle.lego_base.specs.declared.records.PageImage.{PageImage}
+use Rattle.lego_base.specs.declared.records.Patch.{Patch}
 use Rattle.lego_base.specs.declared.records.SpaceAreas.{SpaceAreas}
 use Rattle.lego_msg.specs.Maps.{areas_key, home_key, page_key}
 use Rattle.lego_msg.specs.State.{Disk}
 use Rattle.lego_msg.specs.declared.body.Body.{Body}
-use Rattle.lego_msg.specs.declared.body.Body.TheVariants.{BlockCut, BlockGet, BlockIs, BlockPut, FileCut, FileRead, FileSize, FileWrite, PushImages, PushMeta, ResetImages, SetAreas, Unmap}
+use Rattle.lego_msg.specs.declared.body.Body.TheVariants.{Backup, BlockCut, BlockGet, BlockIs, BlockPut, CopySpace, FileCut, FileRead, FileSize, FileWrite, ImageCopy, LogWrite, PushImages, PushMeta, ResetImages, SetAreas, Unmap, Write}
 
 -- whether an area goes on where another ends, with the same permissions
 abbrev pub goes_on : Area → Area → Bool
@@ -37,12 +39,30 @@ EachOnce key (x ∷ xs) = IsNone key (key x) xs × EachOnce key xs
 abbrev pub ArePages : ℕ → ℕ → List PageImage → Type 0
 ArePages pid region pages = EachOnce page_key pages × AllByRecursion (λ (p : PageImage). (p.pid.0 ≡ pid) × (p.vpn.0 / 512 ≡ region) × (length p.bytes ≡ 4096)) pages
 
+-- the bytes of a patch end within its page
+abbrev pub IsWithinPage : Patch → Type 0
+IsWithinPage p = p.off + length p.bytes ≤ 4096
+
+-- regions that rise: each is below all that follow it
+abbrev pub RegionsRise : List RegionNo → Type 0
+RegionsRise [] = Unit {0}
+RegionsRise (r ∷ regions) = AllByRecursion (λ (s : RegionNo). r.0 < s.0) regions × RegionsRise regions
+
+-- a space is copied for another process, region by region
+abbrev pub IsCopy : ℕ → ℕ → List RegionNo → Type 0
+IsCopy parent child regions = ((parent == child) ≡ false) × RegionsRise regions
+
 -- bytes within one block of a file of at most 16777216 bytes
 abbrev pub IsInBlock : ℕ → ℕ → ℕ → Type 0
 IsInBlock block off len = (block < 4096) × (off + len ≤ 4096)
 
 -- what holds of a body by itself
 abbrev pub InForm : Body → Type 0
+InForm (Write patch) = IsWithinPage patch
+InForm (LogWrite patch) = IsWithinPage patch
+InForm (Backup patches) = AllByRecursion IsWithinPage patches
+InForm (CopySpace parent child regions role) = IsCopy parent.0 child.0 regions
+InForm (ImageCopy parent child regions) = IsCopy parent.0 child.0 regions
 InForm (SetAreas pid region areas role) = IsRegionList region.0 areas
 InForm (Unmap pid region first pages areas role) = IsRegionList region.0 areas
 InForm (PushMeta role homes areas) = EachOnce home_key homes × EachOnce areas_key areas × AllByRecursion (λ (a : SpaceAreas). IsRegionList a.region.0 a.areas) areas

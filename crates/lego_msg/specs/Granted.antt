@@ -10,19 +10,19 @@ use Rattle.lego_base.specs.declared.ids.RegionNo.{RegionNo}
 use Rattle.lego_base.specs.declared.records.Area.{Area}
 use Rattle.lego_base.specs.declared.records.HomeEntry.{HomeEntry}
 use Rattle.lego_base.specs.declared.records.Patch.{Patch}
-use Rattle.lego_msg.specs.Form.{IsInBlock, IsRegionList}
+use Rattle.lego_msg.specs.Form.{IsCopy, IsInBlock, IsRegionList, IsWithinPage}
 use Rattle.lego_msg.specs.Maps.{home_key, owner_of}
 use Rattle.lego_msg.specs.Places.{is_issuer}
 use Rattle.lego_msg.specs.Plain.{IsMapped, Plain, touched}
 use Rattle.lego_msg.specs.State.{Mem}
 use Rattle.lego_msg.specs.Track.{Track, memory_count}
 use Rattle.lego_msg.specs.declared.operation.Operation.{Operation}
-use Rattle.lego_msg.specs.declared.operation.Operation.TheVariants.{AsksAreas, AsksSize, Copies, CutsFile, Drops, Reads, ReadsFile, SetsAreas, SetsHome, Unmaps, Writes, WritesFile}
+use Rattle.lego_msg.specs.declared.operation.Operation.TheVariants.{AsksAreas, AsksSize, Copies, CutsFile, Drains, Drops, Heals, Reads, ReadsFile, SetsAreas, SetsHome, Unmaps, Writes, WritesFile}
 use Rattle.lego_msg.specs.declared.place.Place.{Place}
 
 -- a patch has bytes, and they lie in its page
 abbrev pub PatchFits : Patch → Type 0
-PatchFits p = (0 < length p.bytes) × (p.off + length p.bytes ≤ 4096)
+PatchFits p = (0 < length p.bytes) × IsWithinPage p
 
 -- a page is written: its region's owner is named, and the page is mapped
 pub record WriteFits (owners : List HomeEntry) (f : Plain) (p : Patch) (owner : MemId) : Type 0 where
@@ -60,7 +60,7 @@ OpFits owners f (SetsHome pid region owner) = owner_of owners pid.0 region.0 ≡
 OpFits owners f (SetsAreas pid region areas owner) = AreasFit owners f pid.0 region.0 areas owner
 OpFits owners f (AsksAreas pid region owner) = owner_of owners pid.0 region.0 ≡ Some owner
 OpFits owners f (Unmaps pid region first pages areas owner) = UnmapFits owners f pid.0 region.0 first.0 pages areas owner
-OpFits owners f (Copies parent child regions owner) = ((parent.0 == child.0) ≡ false) × CopyFits owners parent.0 child.0 owner regions
+OpFits owners f (Copies parent child regions owner) = IsCopy parent.0 child.0 regions × CopyFits owners parent.0 child.0 owner regions
 OpFits owners f (ReadsFile file block off len) = FileFits f file × IsInBlock block off len
 OpFits owners f (WritesFile file block off bytes) = FileFits f file × IsInBlock block off (length bytes)
 OpFits owners f (CutsFile file size) = FileFits f file × (size ≤ 16777216)
@@ -83,11 +83,18 @@ asks_clear other pid vpn = false
 abbrev pub IsClear : Operation → List Patch → Type 0
 IsClear operation log = AllByRecursion (λ (p : Patch). asks_clear operation p.pid.0 p.vpn.0 ≡ false) log
 
+-- A drain is of a memory that is there; the messages of a healing are nobody's to call for.
+abbrev pub IsThere : ℕ → Operation → Type 0
+IsThere n (Drains m) = m.0 < n
+IsThere n (Heals to what) = ⊥
+IsThere n other = Unit {0}
+
 -- An operation is granted where the table of owners becomes `owners` with it: only regions without an owner get one.
 pub record Granted (t : Track) (by : Place) (operation : Operation) (owners : List HomeEntry) : Type 0 where
   pub issuer : is_issuer by ≡ true
   pub grow : (pid region : ℕ) (o : MemId) → owner_of t.owners pid region ≡ Some o → owner_of owners pid region ≡ Some o
   pub within : (pid region : ℕ) (o : MemId) → owner_of owners pid region ≡ Some o → o.0 < memory_count t.shape
   pub rise : Rises home_key owners
+  pub there : IsThere (memory_count t.shape) operation
   pub fits : OpFits owners t.plain operation
   pub clear : (m : ℕ) (s : Mem) → slice_get t.mems m ≡ Some s → IsClear operation s.log

@@ -10,7 +10,7 @@ use Rattle.lego_msg.proofs.Rows.{byte_patch, code_areas, cpu0, fill_marks, filli
 use Rattle.lego_msg.proofs.Senders.{same_some}
 use Rattle.lego_msg.specs.Deliveries.{reacts}
 use Rattle.lego_msg.specs.Files.{Files, no_files}
-use Rattle.lego_msg.specs.Granted.{IsClear, OpFits}
+use Rattle.lego_msg.specs.Granted.{IsClear, IsThere, OpFits}
 use Rattle.lego_msg.specs.Kinds.{kind_of}
 use Rattle.lego_msg.specs.Marks.{Call, Mark, order}
 use Rattle.lego_msg.specs.Next.{fits, played}
@@ -22,12 +22,13 @@ use Rattle.lego_msg.specs.Table.{backup, says}
 use Rattle.lego_msg.specs.Track.{Track, again, opened, start}
 use Rattle.lego_msg.specs.declared.body.Body.{Body}
 use Rattle.lego_msg.specs.declared.message.Message.{Message}
-use Rattle.lego_msg.specs.declared.operation.Operation.TheVariants.{Drains, Drops, ReadsFile, Unmaps, Writes}
+use Rattle.lego_msg.specs.declared.operation.Operation.TheVariants.{Drains, Drops, Heals, ReadsFile, Unmaps, Writes}
 use Rattle.lego_msg.specs.declared.place.Place.{Place}
 use Rattle.lego_msg.specs.declared.place.Place.TheVariants.{Manager, Memory, Storage}
 use Rattle.lego_rest.proofs.Resting.{holds, rests}
 use Rattle.lego_rest.specs.Answers.{all_pending, answers_to, is_storage_asked}
 use Rattle.lego_rest.specs.Fits.{BatchFits, BlockFits, CrashesRise, IsRequest, MachineFits, PlainFits, batch_message, receipt}
+use Rattle.lego_rest.specs.Heals.{NumbersDiffer}
 use Rattle.lego_rest.specs.Parts.{Home, Page, main_part, second_part}
 use Rattle.lego_rest.specs.Pending.{AnAnswer, First, Goes, HandedOn, HandsOn, IsBatch, Left, OfBackground, OfMove, OfOpen, OfOperation, Pends, Reaction, Returns, Says}
 use Rattle.lego_rest.specs.Rest.{MemHolds, MemRests, SecondHolds}
@@ -221,6 +222,13 @@ drain_of_a_memory = record { there = omega arith; component = refl; changes = λ
 
 drain_of_nobody : IsRequest 2 (drain_of 2) → ⊥
 drain_of_nobody request = let there : 2 < 2 = request.there in omega (arith, there)
+
+drain_not_granted : IsThere 2 (Drains (mem 2)) → ⊥
+drain_not_granted there = let less : 2 < 2 = there in omega (arith, less)
+
+-- A MOVE has another number than the open operation: else one answer would be both's
+move_beside : (unsent : List Message) → NumbersDiffer (Some (opened (two (0 ∷ []) []) 5 cpu0 (Drains (mem 1)))) (Some (record (opened (two (0 ∷ []) []) 5 Manager (Heals (memory 1) body.Drain)) { unsent = unsent })) → ⊥
+move_beside unsent apart = let both : true ≡ false = apart in cc both
 
 -- THE MACHINE: with one memory a memory would be its own secondary; two crashes of one turn aren't in order
 abbrev alone : Shape

@@ -30,7 +30,7 @@ use Rattle.lego_msg.specs.declared.place.Role.TheVariants.{Main, Spare}
 use Rattle.lego_rest.specs.Answers.{all_pending, gave_answer}
 use Rattle.lego_rest.specs.Fits.{KeptFits, PagesFit, background}
 use Rattle.lego_rest.specs.Parts.{Areas, Home, IsEither, Page, Sides, new_share, old_share, owns, part_of, sides_of}
-use Rattle.lego_rest.specs.Pending.{Among}
+use Rattle.lego_rest.specs.Pending.{Among, IsNot}
 use Rattle.lego_msg.specs.declared.body.Body.TheVariants as body
 use Rattle.lego_msg.specs.declared.place.Place.TheVariants as place
 use Rattle.lego_msg.specs.declared.place.Why.TheVariants as why
@@ -151,6 +151,11 @@ pub record MoveFits (w : Scene) (c : ℕ) (pending : List Message) (next : ℕ) 
   pub answers : AllByRecursion (λ (a : Answer). (a.place ≡ to) × MoveGot w c move a.body) o.answers
   pub answering : AllByRecursion (λ (m : Message). m.op.0 ≡ o.number.0 → m.to ≡ place.Manager → (m.from ≡ to) × MoveGot w c move m.body) pending
 
+-- its number isn't the open operation's
+abbrev pub NumbersDiffer : Option Open → Option Open → Type 0
+NumbersDiffer None move = Unit {0}
+NumbersDiffer (Some o) move = IsNot move o.number.0
+
 -- whether its message is still on its way
 abbrev pub is_asked_still : ℕ → List Message → Bool
 is_asked_still number pending = list_any (λ (m : Message). m.op.0 == number && not (same_place m.to place.Manager)) pending
@@ -204,6 +209,7 @@ pub record HealHolds (t : Track) (c : ℕ) (h : Healing) : Type 0 where
   -- a move and the open operation aren't complete at once, and no other crash comes in this turn
   pub one_done : is_done t.net h.current ≡ true → is_done t.net t.current ≡ false
   pub no_second : is_crash_left t ≡ false
+  pub apart : NumbersDiffer t.current h.current
 
 -- the lost memory is the one that is being healed
 abbrev pub HealFits : Option ℕ → Track → Option Healing → Type 0

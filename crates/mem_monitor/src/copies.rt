@@ -1,79 +1,70 @@
 //! Pages that are copied for a child.
 
-ghost use Rattle.std.specs.Prelude.{◌≡◌, ◌≤◌, length, map, nat_le, IfOk, OnOk};
-ghost use Rattle.lego_msg.specs.Maps.{copied_pages, for_child, pages_of, with_pages};
-ghost use Rattle.mem_monitor.specs.Asked.{IsCopyOf};
+ghost use Rattle.std.specs.Prelude.{◌≡◌, ◌≤◌, length, nat_le};
+ghost use Rattle.lego_msg.specs.Form.{IsCopy, RegionsRise};
+ghost use Rattle.lego_msg.specs.Maps.{copied_pages};
+ghost use Rattle.mem_monitor.specs.Counted.{cleared, counts};
 ghost use Rattle.page_store.specs.Store.{holding};
 
-use lego_base::{NoMemory, PageImage, Pid, RegionNo, Seq};
+use lego_base::{Pid, RegionNo};
 use page_store::{Full, PageStore};
-use std::alloc::Global;
 
-/// Whether there are frames for the pages that the child gets.
+/// Whether there are frames for the pages once the child's of these regions are the parent's.
 pub fn copy_fits(pages: &PageStore, parent: Pid, child: Pid, regions: &[RegionNo]) -> bool
-    requires { IsCopyOf pages.now.pages parent.0 child.0 regions.now }
+    requires { IsCopy parent.0 child.0 regions.now }
     ensures { result ≡ nat_le (length (copied_pages parent.0 child regions.now pages.now.pages)) pages.now.frames }
 {
-    let frames = pages.frames() as u64;
-    let mut total = pages.used() as u64;
-    for region in regions {
-        total += (pages.count(parent, *region) - pages.count(child, *region)) as u64;
-        if total > frames {
-            return false;
-        }
-    }
-    true
+    let lost = count_all(pages, child, regions);
+    let gained = count_all(pages, parent, regions);
+    pages.used() as u64 - lost + gained <= pages.frames() as u64
 }
 
 /// The child's pages of regions become the parent's. There are frames for them.
-pub fn copy_pages(
-    pages: &mut PageStore,
-    alloc: Global,
-    parent: Pid,
-    child: Pid,
-    regions: &[RegionNo],
-) -> Result<(), NoMemory>
-    requires copy { IsCopyOf pages.old.pages parent.0 child.0 regions.now }
+pub fn copy_pages(pages: &mut PageStore, parent: Pid, child: Pid, regions: &[RegionNo])
+    requires copy { IsCopy parent.0 child.0 regions.now }
     requires fits { length (copied_pages parent.0 child regions.now pages.old.pages) ≤ pages.old.frames }
-    ensures { OnOk result (pages.new ≡ holding pages.old (copied_pages parent.0 child regions.now pages.old.pages)) }
+    ensures { pages.new ≡ holding pages.old (copied_pages parent.0 child regions.now pages.old.pages) }
+{
+    let _used = pages.used(); // they are in order
+    drop_regions(pages, child, regions);
+    copy_regions(pages, parent, child, regions);
+}
+
+// How many pages of some regions are present.
+fn count_all(pages: &PageStore, pid: Pid, regions: &[RegionNo]) -> u64
+    requires { RegionsRise regions.now }
+    ensures count { result ≡ counts pid.0 regions.now pages.now.pages }
+    ensures few { result ≤ length pages.now.pages }
+{
+    let _used = pages.used(); // no sum is above this
+    let mut total = 0;
+    for region in regions {
+        total += pages.count(pid, *region) as u64;
+    }
+    total
+}
+
+// Drops the pages of some regions.
+fn drop_regions(pages: &mut PageStore, pid: Pid, regions: &[RegionNo])
+    ensures { pages.new ≡ holding pages.old (cleared pid.0 regions.now pages.old.pages) }
+{
+    for region in regions {
+        pages.drop_region(pid, *region);
+    }
+}
+
+// Copies the pages of regions where the child has none. There are frames for them.
+fn copy_regions(pages: &mut PageStore, parent: Pid, child: Pid, regions: &[RegionNo])
+    requires copy { IsCopy parent.0 child.0 regions.now }
+    requires none { counts child.0 regions.now pages.old.pages ≡ 0 }
+    requires fits { length (copied_pages parent.0 child regions.now pages.old.pages) ≤ pages.old.frames }
+    ensures { pages.new ≡ holding pages.old (copied_pages parent.0 child regions.now pages.old.pages) }
 {
     let _used = pages.used(); // they are in form
     for region in regions {
-        copy_region(pages, alloc, parent, child, *region)?;
+        match pages.copy_pages(parent, child, *region) {
+            Ok(()) => {}
+            Err(Full) => unreachable!(), // there are frames
+        }
     }
-    Ok(())
-}
-
-// The child's pages of a region become the parent's. There are frames for them.
-fn copy_region(
-    pages: &mut PageStore,
-    alloc: Global,
-    parent: Pid,
-    child: Pid,
-    region: RegionNo,
-) -> Result<(), NoMemory>
-    requires { length (with_pages child.0 region.0 (map (for_child child) (pages_of parent.0 region.0 pages.old.pages)) pages.old.pages) ≤ pages.old.frames }
-    ensures { OnOk result (pages.new ≡ holding pages.old (with_pages child.0 region.0 (map (for_child child) (pages_of parent.0 region.0 pages.old.pages)) pages.old.pages)) }
-{
-    let copies = pages.pages_of(alloc, parent, region)?;
-    let copies = of_child(alloc, copies, child)?;
-    match pages.replace_region(child, region, copies.as_slice()) {
-        Ok(()) => Ok(()),
-        Err(Full) => unreachable!(), // there are frames
-    }
-}
-
-// The same pages as those of another process. Their bytes are moved.
-fn of_child(alloc: Global, pages: Seq<PageImage>, child: Pid) -> Result<Seq<PageImage>, NoMemory>
-    ensures { IfOk result (λ copies. copies ≡ map (for_child child) pages) }
-{
-    let mut copies = Vec::with_capacity(alloc, pages.len())?;
-    for page in pages.into_vec() {
-        copies.push(PageImage {
-            pid: child,
-            vpn: page.vpn,
-            bytes: page.bytes,
-        })?;
-    }
-    Ok(Seq::from_vec(copies))
 }

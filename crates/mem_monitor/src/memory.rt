@@ -5,7 +5,6 @@ ghost use Rattle.lego_msg.specs.Form.{InForm};
 ghost use Rattle.lego_msg.specs.Places.{memory};
 ghost use Rattle.lego_msg.specs.State.{empty_mem, lost};
 ghost use Rattle.lego_msg.specs.Table.{handled, reply};
-ghost use Rattle.mem_monitor.specs.Asked.{IsServed};
 
 use crate::asker::Asker;
 use crate::keeper::Keeper;
@@ -119,8 +118,7 @@ impl Memory {
     /// Handles a message: the memory's new state and the messages that it sends are those of the message table. After
     /// lack of memory nothing is promised of it, and the machine stops.
     pub fn handle(&mut self, alloc: Global, m: Message, out: &mut Outbox) -> Result<(), NoMemory>
-        requires form { InForm m.body }
-        requires served { IsServed self.old m.body }
+        requires { InForm m.body }
         ensures { OnOk result (Row self.old self.new out.old out.new (handled self.old m)) }
     {
         let Message { from, op, body, .. } = m;

@@ -2,9 +2,8 @@
 
 ghost use Rattle.std.specs.Prelude.{◌≡◌, ◌*◌, ◌/◌, ◌%◌, drop, is_err, length, nat_lt, take, IfOk, OnErr, OnOk};
 ghost use Rattle.lego_base.specs.Space.{perms_of};
-ghost use Rattle.lego_msg.specs.Form.{ArePages};
+ghost use Rattle.lego_msg.specs.Form.{ArePages, IsCopy, IsWithinPage};
 ghost use Rattle.lego_msg.specs.Maps.{copied_areas, page_at, patched};
-ghost use Rattle.page_store.specs.Store.{IsWithinPage};
 
 use crate::asker::Asker;
 use crate::copies::{copy_fits, copy_pages};
@@ -26,7 +25,6 @@ const REGION_LINES: u64 = REGION_BYTES / LINE_BYTES;
 impl Memory {
     ghost use Rattle.lego_msg.specs.Maps.{areas_at};
     ghost use Rattle.lego_msg.specs.declared.place.Role.TheVariants.{Main};
-    ghost use Rattle.mem_monitor.specs.Asked.{IsCopyOf};
     ghost use Rattle.lego_msg.specs.Table.{areas_set, copy_row, drop_row, line_answer, pages_dropped, pull_pages_row, push_images_row, read_row, unmap_row, write_row};
     ghost use Rattle.mem_monitor.specs.Rows.{Row, asking};
 
@@ -137,7 +135,7 @@ impl Memory {
         role: Role,
         out: &mut Outbox,
     ) -> Result<(), NoMemory>
-        requires { IsCopyOf self.old.pages parent.0 child.0 regions.now }
+        requires { IsCopy parent.0 child.0 regions.now }
         ensures { OnOk result (Row self.old self.new out.old out.new (copy_row self.old (asking asker) parent child regions.now role)) }
     {
         match role {
@@ -158,13 +156,13 @@ impl Memory {
         regions: &[RegionNo],
         out: &mut Outbox,
     ) -> Result<(), NoMemory>
-        requires { IsCopyOf self.old.pages parent.0 child.0 regions.now }
+        requires { IsCopy parent.0 child.0 regions.now }
         ensures { OnOk result (Row self.old self.new out.old out.new (copy_row self.old (asking asker) parent child regions.now Main)) }
     {
         if !copy_fits(&self.pages, parent, child, regions) {
             return self.answer(asker, Body::Refused(Why::Full), out);
         }
-        copy_pages(&mut self.pages, alloc, parent, child, regions)?;
+        copy_pages(&mut self.pages, parent, child, regions);
         copy_areas(&mut self.main, alloc, parent, child, regions)?;
         self.answer(asker, Body::Done, out)
     }

@@ -52,3 +52,12 @@ all_in frames pid region (s ∷ spots) held = by (is_page_of pid region (spot_ke
 
 pub are_pages : (frames : List (Option Page)) (pid region : ℕ) (spots : List Spot) → Rises spot_key spots → AreHeld frames spots → ArePages pid region (pages_of pid region (images frames spots))
 are_pages frames pid region spots rise held = (once frames (is_page_of pid region) spots rise, all_in frames pid region spots held)
+
+-- the pages rise as their places do
+pub rises_images : (frames : List (Option Page)) (spots : List Spot) → Rises spot_key spots → Rises page_key (images frames spots)
+rises_images frames [] rise = tt
+rises_images frames (s ∷ spots) rise = (first spots rise.0, rises_images frames spots rise.1)
+  where
+    first : (ts : List Spot) → IsAbove spot_key s ts → IsAbove page_key (image frames s) (images frames ts)
+    first [] above = tt
+    first (t ∷ ts) above = above

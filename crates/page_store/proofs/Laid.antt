@@ -11,11 +11,12 @@ use Rattle.lego_base.specs.declared.ids.Vpn.{Vpn}
 use Rattle.lego_base.specs.declared.records.PageImage.{PageImage}
 use Rattle.lego_base.specs.declared.records.Patch.{Patch}
 use Rattle.keyed_list.proofs.Order.{same_is}
+use Rattle.lego_msg.specs.Form.{IsWithinPage}
 use Rattle.lego_msg.specs.Maps.{bytes_or_zeros, image_bytes, page_at, page_key, patched}
 use Rattle.page_store.proofs.Changes.{Stays, held-put, held-written, held_stay, images-put, images-written, images_stay}
 use Rattle.page_store.proofs.Places.{find-images, frames_differ, held_some, length-images, length-put_new}
 use Rattle.page_store.specs.Spots.{AreHeld, IsHeld, IsPageOf, IsTied, bytes_in, image, images, laid, page_image, spot_key}
-use Rattle.page_store.specs.Store.{IsWithinPage, patch_of}
+use Rattle.page_store.specs.Store.{patch_of}
 use Rattle.page_store.specs.declared.frames.Page.{Page}
 use Rattle.page_store.specs.declared.spot.Spot.{Spot}
 

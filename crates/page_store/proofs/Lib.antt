@@ -4,3 +4,5 @@ pub mod Laid
 pub mod Freed
 pub mod Replaced
 pub mod Formed
+pub mod Copied
+pub mod Owned

@@ -1,5 +1,5 @@
 -- How a page store has its pages: a list of places that rises, and the frames.
-use Rattle.std.specs.Prelude.{◌≡◌, ◌<◌, ◌^◌, [], ◌∷◌, ℕ, Bool, List, None, Option, Some, count_by, is_some, length, map, slice_index_or, slice_set}
+use Rattle.std.specs.Prelude.{◌≡◌, ◌<◌, ◌==◌, ◌&&◌, ◌^◌, [], ◌∷◌, ℕ, Bool, List, None, Option, Some, count_by, false, is_some, length, map, slice_index_or, slice_set}
 use Rattle.std.specs.List.{AllByRecursion}
 use Rattle.lego_base.specs.Keys.{Key, Rises, key_at}
 use Rattle.keyed_list.specs.Below.{is_within}
@@ -12,6 +12,11 @@ use Rattle.page_store.specs.declared.spot.Spot.{Spot}
 
 abbrev pub spot_key : Spot → Key
 spot_key s = key_at s.pid.0 s.vpn.0
+
+-- the frame at a place, where there is one
+abbrev pub frame_in : Option Spot → Option ℕ
+frame_in None = None
+frame_in (Some s) = Some s.frame
 
 abbrev pub bytes_in : Option Page → List ℕ
 bytes_in None = []
@@ -28,6 +33,11 @@ image frames s = record { pid = s.pid; vpn = s.vpn; bytes = bytes_in (slice_inde
 abbrev pub laid : ℕ → List ℕ → Option Page → Option Page
 laid off bytes None = None
 laid off bytes (Some page) = Some (record page { bytes = laid_over page.bytes off bytes })
+
+-- whether a frame holds this page
+abbrev pub is_page : ℕ → ℕ → Option Page → Bool
+is_page pid vpn None = false
+is_page pid vpn (Some page) = page.pid.0 == pid && page.vpn.0 == vpn
 
 -- a frame holds the page of a place
 abbrev pub IsPageOf : Spot → Option Page → Type 0

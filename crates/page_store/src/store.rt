@@ -1,20 +1,18 @@
 //! A map from pages to their bytes.
 
-ghost use Rattle.std.specs.Prelude.{◌≡◌, ℕ, ◌+◌, ◌-◌, ◌<◌, ◌≤◌, ◌^◌, ◌++◌, [], Bool, None, drop, is_err, length, nat_lt, take, vec_capacity, OnOk, OnErr, IfOk};
+ghost use Rattle.std.specs.Prelude.{◌≡◌, ℕ, ◌+◌, ◌-◌, ◌<◌, ◌≤◌, ◌^◌, ◌++◌, [], Bool, Some, None, drop, is_err, length, nat_lt, take, vec_capacity, OnOk, OnErr, IfOk};
 ghost use Rattle.std.specs.List.{AllByRecursion};
 ghost use Rattle.lego_base.specs.Pieces.{piece};
 ghost use Rattle.lego_base.specs.Keys.{Key, Rises, find, is_of, is_page_from, is_page_of, key_at, put, put_all, those, without};
 ghost use Rattle.lego_msg.specs.Maps.{page_at, page_key, pages_of, patched, with_pages};
-ghost use Rattle.lego_msg.specs.Form.{ArePages};
-ghost use Rattle.keyed_list.specs.Places.{IsAt};
-ghost use Rattle.page_store.specs.Spots.{AreHeld, IsTied, SaysWithin, images, page_image, spot_key};
-ghost use Rattle.page_store.specs.Store.{IsWithinPage, patch_of};
+ghost use Rattle.lego_msg.specs.Form.{ArePages, IsWithinPage};
+ghost use Rattle.page_store.specs.Spots.{AreHeld, IsTied, SaysWithin, frame_in, images, page_image, spot_key};
+ghost use Rattle.page_store.specs.Store.{patch_of};
 
-use crate::frames::{self, Page, page_of};
+use crate::frames::{self, Page, PageFrames, page_of};
 use crate::spot::Spot;
-use keyed_list::{get, position, put, span};
+use keyed_list::{get, put, span};
 use lego_base::{Bytes, NoMemory, PageImage, Patch, Pid, RegionNo, Seq, Vpn};
-use slab::Slab;
 use std::alloc::Global;
 use std::marker::Model;
 
@@ -29,9 +27,9 @@ pub struct Full;
 /// reads 0.
 #[derive(Debug, Drop)]
 pub struct PageStore {
-    most: u32, // frames
-    spots: Vec<Spot>, // rising by process and page
-    frames: Slab<Page>,
+    pub(crate) most: u32, // frames
+    pub(crate) spots: Vec<Spot>, // rising by process and page
+    pub(crate) frames: PageFrames,
 }
 
 impl Model for PageStore {
@@ -55,11 +53,11 @@ impl PageStore {
         ensures { IfOk result (λ store. store ≡ record { frames = frames; pages = [] }) }
     {
         let spots = Vec::with_capacity(alloc, frames as usize)?;
-        let slab = Slab::with_capacity(alloc, frames as usize)?;
+        let places = PageFrames::new(alloc, frames)?;
         Ok(PageStore {
             most: frames,
             spots,
-            frames: slab,
+            frames: places,
         })
     }
 
@@ -117,6 +115,13 @@ impl PageStore {
         }
     }
 
+    /// Drops the pages of a region.
+    pub fn drop_region(&mut self, pid: Pid, region: RegionNo)
+        ensures { self.new ≡ holding self.old (without page_key (is_page_of pid.0 region.0) self.old.pages) }
+    {
+        drop_region(&mut self.spots, &mut self.frames, pid, region);
+    }
+
     /// Drops all pages of a process.
     pub fn drop_process(&mut self, pid: Pid)
         ensures { self.new ≡ holding self.old (without page_key (is_of pid.0) self.old.pages) }
@@ -143,6 +148,7 @@ impl PageStore {
     pub fn used(&self) -> u32
         ensures used { result ≡ length self.now.pages }
         ensures few { length self.now.pages ≤ self.now.frames }
+        ensures rises { Rises page_key self.now.pages }
         ensures form { (pid region : ℕ) → ArePages pid region (pages_of pid region self.now.pages) }
     {
         let _most = self.most; // there are no more pages than this
@@ -195,21 +201,43 @@ impl PageStore {
 }
 
 // Copies bytes of a page into the buffer: 0 where the page isn't present.
-fn copy_out(spots: &[Spot], frames: &Slab<Page>, pid: Pid, vpn: Vpn, off: u16, buf: &mut [u8])
+fn copy_out(spots: &[Spot], frames: &PageFrames, pid: Pid, vpn: Vpn, off: u16, buf: &mut [u8])
     requires tied { IsTied spots.now frames.now.slots }
     requires within { off + length buf.old ≤ 4096 }
     ensures { buf.new ≡ piece (page_at (images frames.now.slots spots.now) pid.0 vpn.0) off (length buf.old) }
 {
-    match get(spots, pid, vpn.0) {
-        Some(spot) => frames::read(frames, spot.frame, off as usize, buf),
+    match frame_of(spots, frames, pid, vpn) {
+        Some(frame) => frames::read(frames, frame, off as usize, buf),
         None => buf.fill(0),
+    }
+}
+
+// The frame of a page: the one that a hint names, else by a search.
+fn frame_of(spots: &[Spot], frames: &PageFrames, pid: Pid, vpn: Vpn) -> Option<usize>
+    requires { IsTied spots.now frames.now.slots }
+    ensures { result ≡ frame_in (find spot_key (key_at pid.0 vpn.0) spots.now) }
+{
+    match frames::hinted(frames, pid, vpn) {
+        Some(frame) => Some(frame),
+        None => searched(spots, pid, vpn),
+    }
+}
+
+// The frame of a page by a search.
+fn searched(spots: &[Spot], pid: Pid, vpn: Vpn) -> Option<usize>
+    requires { Rises spot_key spots.now }
+    ensures { result ≡ frame_in (find spot_key (key_at pid.0 vpn.0) spots.now) }
+{
+    match get(spots, pid, vpn.0) {
+        Some(spot) => Some(spot.frame),
+        None => None,
     }
 }
 
 // Lays bytes over those of a page.
 fn lay(
     spots: &mut Vec<Spot>,
-    frames: &mut Slab<Page>,
+    frames: &mut PageFrames,
     most: u32,
     pid: Pid,
     vpn: Vpn,
@@ -229,13 +257,12 @@ fn lay(
     ensures spots { vec_capacity spots.old ≤ vec_capacity spots.new }
     ensures frames { frames.new.capacity ≡ frames.old.capacity }
 {
-    let number = vpn.0;
-    match position(spots.as_slice(), pid, number) {
-        Ok(place) => {
-            lay_over(spots.as_slice(), frames, place, pid, vpn, off, bytes);
+    match frame_of(spots.as_slice(), frames, pid, vpn) {
+        Some(frame) => {
+            lay_over(spots.as_slice(), frames, frame, pid, vpn, off, bytes);
             Ok(())
         }
-        Err(_) => {
+        None => {
             if spots.len() == most as usize {
                 return Err(Full);
             }
@@ -248,26 +275,27 @@ fn lay(
 // Lays bytes over those of a page, which is present.
 fn lay_over(
     spots: &[Spot],
-    frames: &mut Slab<Page>,
-    place: usize,
+    frames: &mut PageFrames,
+    frame: usize,
     pid: Pid,
     vpn: Vpn,
     off: u16,
     bytes: &[u8],
 )
     requires tied { IsTied spots.now frames.old.slots }
-    requires place { IsAt spot_key (key_at pid.0 vpn.0) spots.now place }
+    requires frame { frame_in (find spot_key (key_at pid.0 vpn.0) spots.now) ≡ Some frame }
     requires within { off + length bytes.now ≤ 4096 }
     ensures pages { images frames.new.slots spots.now ≡ patched (patch_of pid vpn off bytes.now) (images frames.old.slots spots.now) }
     ensures length { length (patched (patch_of pid vpn off bytes.now) (images frames.old.slots spots.now)) ≡ length spots.now }
     ensures tied { IsTied spots.now frames.new.slots }
     ensures capacity { frames.new.capacity ≡ frames.old.capacity }
 {
-    frames::lay(frames, spots[place].frame, off as usize, bytes);
+    let _places = spots; // they don't change
+    frames::lay(frames, frame, off as usize, bytes);
 }
 
 // Adds a page that isn't present.
-fn add(spots: &mut Vec<Spot>, frames: &mut Slab<Page>, page: Page)
+pub(crate) fn add(spots: &mut Vec<Spot>, frames: &mut PageFrames, page: Page)
     requires tied { IsTied spots.old.items frames.old.slots }
     requires absent { find spot_key (key_at page.pid.0 page.vpn.0) spots.old.items ≡ None }
     requires bytes { length page.bytes ≡ 4096 }
@@ -282,7 +310,7 @@ fn add(spots: &mut Vec<Spot>, frames: &mut Slab<Page>, page: Page)
 {
     let pid = page.pid;
     let vpn = page.vpn;
-    let frame = frames.insert_reserved(page);
+    let frame = frames.insert(page);
     match put(spots, Spot { pid, vpn, frame }) {
         Ok(()) => {}
         Err(_) => unreachable!(), // there is room
@@ -292,7 +320,7 @@ fn add(spots: &mut Vec<Spot>, frames: &mut Slab<Page>, page: Page)
 // Makes these the bytes of a page.
 fn put_whole(
     spots: &mut Vec<Spot>,
-    frames: &mut Slab<Page>,
+    frames: &mut PageFrames,
     most: u32,
     pid: Pid,
     vpn: Vpn,
@@ -315,7 +343,7 @@ fn put_whole(
 }
 
 // Where the pages of a region are.
-fn region_span(spots: &[Spot], pid: Pid, region: RegionNo) -> (usize, usize)
+pub(crate) fn region_span(spots: &[Spot], pid: Pid, region: RegionNo) -> (usize, usize)
     requires rises { Rises spot_key spots.now }
     requires fit { AllByRecursion (λ s. s.vpn.0 < 2 ^ 64) spots.now }
     ensures order { result.0 ≤ result.1 }
@@ -331,10 +359,11 @@ fn region_span(spots: &[Spot], pid: Pid, region: RegionNo) -> (usize, usize)
 }
 
 // How many pages are present.
-fn used_in(spots: &[Spot], frames: &Slab<Page>) -> usize
+fn used_in(spots: &[Spot], frames: &PageFrames) -> usize
     requires { IsTied spots.now frames.now.slots }
     ensures used { result ≡ length (images frames.now.slots spots.now) }
     ensures spots { result ≡ length spots.now }
+    ensures rises { Rises page_key (images frames.now.slots spots.now) }
     ensures form { (pid region : ℕ) → ArePages pid region (pages_of pid region (images frames.now.slots spots.now)) }
 {
     let _frames = frames; // what they hold is in form
@@ -342,7 +371,7 @@ fn used_in(spots: &[Spot], frames: &Slab<Page>) -> usize
 }
 
 // How many pages of a region are present.
-fn count_in(spots: &[Spot], frames: &Slab<Page>, pid: Pid, region: RegionNo) -> usize
+pub(crate) fn count_in(spots: &[Spot], frames: &PageFrames, pid: Pid, region: RegionNo) -> usize
     requires { IsTied spots.now frames.now.slots }
     ensures count { result ≡ length (pages_of pid.0 region.0 (images frames.now.slots spots.now)) }
     ensures few { result ≤ length spots.now }
@@ -355,7 +384,7 @@ fn count_in(spots: &[Spot], frames: &Slab<Page>, pid: Pid, region: RegionNo) -> 
 fn pages_in(
     alloc: Global,
     spots: &[Spot],
-    frames: &Slab<Page>,
+    frames: &PageFrames,
     pid: Pid,
     region: RegionNo,
 ) -> Result<Seq<PageImage>, NoMemory>
@@ -368,7 +397,7 @@ fn pages_in(
 }
 
 // Copies of the pages at these places.
-fn copies(alloc: Global, spots: &[Spot], frames: &Slab<Page>) -> Result<Seq<PageImage>, NoMemory>
+fn copies(alloc: Global, spots: &[Spot], frames: &PageFrames) -> Result<Seq<PageImage>, NoMemory>
     requires { AreHeld frames.now.slots spots.now }
     ensures { IfOk result (λ pages. pages ≡ images frames.now.slots spots.now) }
 {
@@ -385,7 +414,7 @@ fn copies(alloc: Global, spots: &[Spot], frames: &Slab<Page>) -> Result<Seq<Page
 }
 
 // Drops the pages of a process with numbers from `first` to `last`.
-fn drop_span(spots: &mut Vec<Spot>, frames: &mut Slab<Page>, pid: Pid, first: u64, last: u64)
+fn drop_span(spots: &mut Vec<Spot>, frames: &mut PageFrames, pid: Pid, first: u64, last: u64)
     requires tied { IsTied spots.old.items frames.old.slots }
     requires order { first ≤ last }
     ensures pages { (test : Key → Bool) → SaysWithin pid.0 first last test → images frames.new.slots spots.new.items ≡ without page_key test (images frames.old.slots spots.old.items) }
@@ -414,7 +443,7 @@ fn cut(spots: &mut Vec<Spot>, start: usize, end: usize)
 // Makes these the pages of a region.
 fn replace_in(
     spots: &mut Vec<Spot>,
-    frames: &mut Slab<Page>,
+    frames: &mut PageFrames,
     most: u32,
     pid: Pid,
     region: RegionNo,
@@ -443,7 +472,12 @@ fn replace_in(
 }
 
 // Drops the pages of a region.
-fn drop_region(spots: &mut Vec<Spot>, frames: &mut Slab<Page>, pid: Pid, region: RegionNo)
+pub(crate) fn drop_region(
+    spots: &mut Vec<Spot>,
+    frames: &mut PageFrames,
+    pid: Pid,
+    region: RegionNo,
+)
     requires tied { IsTied spots.old.items frames.old.slots }
     ensures pages { images frames.new.slots spots.new.items ≡ without page_key (is_page_of pid.0 region.0) (images frames.old.slots spots.old.items) }
     ensures tied { IsTied spots.new.items frames.new.slots }
@@ -459,7 +493,7 @@ fn drop_region(spots: &mut Vec<Spot>, frames: &mut Slab<Page>, pid: Pid, region:
 }
 
 // Puts pages one after the other. There is a frame for each.
-fn put_each(spots: &mut Vec<Spot>, frames: &mut Slab<Page>, most: u32, pages: &[PageImage])
+fn put_each(spots: &mut Vec<Spot>, frames: &mut PageFrames, most: u32, pages: &[PageImage])
     requires tied { IsTied spots.old.items frames.old.slots }
     requires few { length spots.old.items ≤ most }
     requires spots { most ≤ vec_capacity spots.old }

@@ -60,7 +60,7 @@ not_owner owners j p r pid region owner owned differ owns_it this =
 home_elsewhere : (n j p r pid region : ℕ) → (j ≡ home_of n pid → ⊥) → (home_of n p == j) ≡ true → (pid == p && region == r) ≡ true → ⊥
 home_elsewhere n j p r pid region differ home this = differ (sym (eqb-true (home_of n p) j home) ∙ ap (home_of n) (sym (eqb-true pid p (both_true (pid == p) (region == r) this).0)))
 
-same_homes : (n : ℕ) (owners : List HomeEntry) (f : Plain) (pid region : ℕ) (owner : MemId) (j : ℕ) → (j ≡ home_of n pid → ⊥) → (c : Cell) → share n owners f j c ≡ share n owners (with_home_of pid region owner f) j c
+pub same_homes : (n : ℕ) (owners : List HomeEntry) (f : Plain) (pid region : ℕ) (owner : MemId) (j : ℕ) → (j ≡ home_of n pid → ⊥) → (c : Cell) → share n owners f j c ≡ share n owners (with_home_of pid region owner f) j c
 same_homes n owners f pid region owner j differ (Home p r) = kept_elsewhere (home_of n p == j) (pid == p && region == r) (Some owner) (f.homes p r) None (home_elsewhere n j p r pid region differ)
 same_homes n owners f pid region owner j differ (Areas p r) = refl
 same_homes n owners f pid region owner j differ (Page p vpn) = refl
@@ -88,7 +88,7 @@ homes_fit n owners f pid region owner owned fits = record {
 
 -- AREAS
 
-same_areas : (n : ℕ) (owners : List HomeEntry) (f : Plain) (pid region : ℕ) (areas : List Area) (owner : MemId) (j : ℕ) → owner_of owners pid region ≡ Some owner → (j ≡ owner.0 → ⊥) → (c : Cell) → share n owners f j c ≡ share n owners (with_region pid region areas f) j c
+pub same_areas : (n : ℕ) (owners : List HomeEntry) (f : Plain) (pid region : ℕ) (areas : List Area) (owner : MemId) (j : ℕ) → owner_of owners pid region ≡ Some owner → (j ≡ owner.0 → ⊥) → (c : Cell) → share n owners f j c ≡ share n owners (with_region pid region areas f) j c
 same_areas n owners f pid region areas owner j owned differ (Home p r) = refl
 same_areas n owners f pid region areas owner j owned differ (Areas p r) = kept_elsewhere (owns owners j p r) (pid == p && region == r) areas (f.areas p r) [] (not_owner owners j p r pid region owner owned differ)
 same_areas n owners f pid region areas owner j owned differ (Page p vpn) = refl
@@ -132,7 +132,7 @@ areas_fit n owners f pid region areas owner fit fits = record {
 
 -- A PATCH
 
-same_patched : (n : ℕ) (owners : List HomeEntry) (f : Plain) (patch : Patch) (owner : MemId) (j : ℕ) → owner_of owners patch.pid.0 (patch.vpn.0 / 512) ≡ Some owner → (j ≡ owner.0 → ⊥) → (c : Cell) → share n owners f j c ≡ share n owners (with_patch patch f) j c
+pub same_patched : (n : ℕ) (owners : List HomeEntry) (f : Plain) (patch : Patch) (owner : MemId) (j : ℕ) → owner_of owners patch.pid.0 (patch.vpn.0 / 512) ≡ Some owner → (j ≡ owner.0 → ⊥) → (c : Cell) → share n owners f j c ≡ share n owners (with_patch patch f) j c
 same_patched n owners f patch owner j owned differ (Home p r) = refl
 same_patched n owners f patch owner j owned differ (Areas p r) = refl
 same_patched n owners f patch owner j owned differ (Page p vpn) = kept_elsewhere (owns owners j p (vpn / 512)) (patch.pid.0 == p && patch.vpn.0 == vpn) (Some (laid_over (bytes_or_zeros (f.page p vpn)) patch.off patch.bytes)) (f.page p vpn) None apart
@@ -144,11 +144,11 @@ same_patched n owners f patch owner j owned differ (Page p vpn) = kept_elsewhere
         let holder : eqb owner.0 j ≡ true = sym (ap (is_owner j) is) ∙ owns_it in
         differ (sym (eqb-true owner.0 j holder))
 
-whole_page : (page : Option (List ℕ)) → ((bytes : List ℕ) → page ≡ Some bytes → length bytes ≡ 4096) → length (bytes_or_zeros page) ≡ 4096
+pub whole_page : (page : Option (List ℕ)) → ((bytes : List ℕ) → page ≡ Some bytes → length bytes ≡ 4096) → length (bytes_or_zeros page) ≡ 4096
 whole_page None whole = length-replicate {A = ℕ} 4096 0
 whole_page (Some bytes) whole = whole bytes refl
 
-laid_length : (old : List ℕ) (off : ℕ) (bytes : List ℕ) → off + length bytes ≤ length old → length (laid_over old off bytes) ≡ length old
+pub laid_length : (old : List ℕ) (off : ℕ) (bytes : List ℕ) → off + length bytes ≤ length old → length (laid_over old off bytes) ≡ length old
 laid_length old off bytes within =
     let front : length (take off old) ≡ off = length-take-le off old (omega (arith, within)) in
     let middle : length (take off old ++ bytes) ≡ length (take off old) + length bytes = length-append (take off old) bytes in
@@ -203,7 +203,7 @@ patch_fit n owners f patch owner fit fits = record {
 -- AN UNMAPPING
 
 -- a page of the range is of the region
-in_region : (pid region first pages p vpn : ℕ) → region * 512 ≤ first → first + pages ≤ region * 512 + 512 → is_page_from pid first pages (key_at p vpn) ≡ true → (p ≡ pid) × (vpn / 512 ≡ region)
+pub in_region : (pid region first pages p vpn : ℕ) → region * 512 ≤ first → first + pages ≤ region * 512 + 512 → is_page_from pid first pages (key_at p vpn) ≡ true → (p ≡ pid) × (vpn / 512 ≡ region)
 in_region pid region first pages p vpn low high inside =
     let outer = both_true (eqb p pid && leb first vpn) (ltb vpn (first + pages)) inside in
     let inner = both_true (eqb p pid) (leb first vpn) outer.0 in
@@ -211,7 +211,7 @@ in_region pid region first pages p vpn low high inside =
     let to : vpn < first + pages = ltb-true vpn (first + pages) outer.1 in
     (eqb-true p pid inner.0, omega (arith, low, high, from, to))
 
-same_unmapped : (n : ℕ) (owners : List HomeEntry) (f : Plain) (pid region first pages : ℕ) (areas : List Area) (owner : MemId) (j : ℕ) → UnmapFits owners f pid region first pages areas owner → (j ≡ owner.0 → ⊥) → (c : Cell) → share n owners f j c ≡ share n owners (without_pages pid first pages (with_region pid region areas f)) j c
+pub same_unmapped : (n : ℕ) (owners : List HomeEntry) (f : Plain) (pid region first pages : ℕ) (areas : List Area) (owner : MemId) (j : ℕ) → UnmapFits owners f pid region first pages areas owner → (j ≡ owner.0 → ⊥) → (c : Cell) → share n owners f j c ≡ share n owners (without_pages pid first pages (with_region pid region areas f)) j c
 same_unmapped n owners f pid region first pages areas owner j fit differ (Home p r) = refl
 same_unmapped n owners f pid region first pages areas owner j fit differ (Areas p r) = kept_elsewhere (owns owners j p r) (pid == p && region == r) areas (f.areas p r) [] (not_owner owners j p r pid region owner fit.owned differ)
 same_unmapped n owners f pid region first pages areas owner j fit differ (Page p vpn) = kept_elsewhere (owns owners j p (vpn / 512)) (is_page_from pid first pages (key_at p vpn)) None (f.page p vpn) None apart

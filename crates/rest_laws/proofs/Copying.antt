@@ -87,7 +87,7 @@ copy_fits_one n owners f parent child r owner owned fits = record {
 
 -- ALL REGIONS, one after the other
 
-same_copied : (n : ℕ) (owners : List HomeEntry) (parent child : ℕ) (regions : List RegionNo) (f : Plain) (owner : MemId) (j : ℕ) → CopyFits owners parent child owner regions → (j ≡ owner.0 → ⊥) → (c : Cell) → share n owners f j c ≡ share n owners (with_regions_of parent child regions f) j c
+pub same_copied : (n : ℕ) (owners : List HomeEntry) (parent child : ℕ) (regions : List RegionNo) (f : Plain) (owner : MemId) (j : ℕ) → CopyFits owners parent child owner regions → (j ≡ owner.0 → ⊥) → (c : Cell) → share n owners f j c ≡ share n owners (with_regions_of parent child regions f) j c
 same_copied n owners parent child [] f owner j fit differ c = refl
 same_copied n owners parent child (r ∷ regions) f owner j fit differ c =
     same_copied_one n owners f parent child r.0 owner j fit.1 differ c

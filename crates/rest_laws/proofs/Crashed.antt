@@ -28,7 +28,7 @@ use Rattle.lego_msg.specs.declared.place.Place.TheVariants.{Manager, Memory, Pro
 use Rattle.lego_msg.specs.declared.place.Role.TheVariants.{Main, Spare}
 use Rattle.lego_rest.specs.Answers.{all_pending, asks_storage_by, gave_answer, heals_target, is_storage_asked, is_storage_true, is_writing, second_due}
 use Rattle.lego_rest.specs.Fits.{CrashesRise, MemFits, WaiterFits, background, changes_block, is_background}
-use Rattle.lego_rest.specs.Heals.{HealFits, NotYet}
+use Rattle.lego_rest.specs.Heals.{HealFits, NotYet, NumbersDiffer}
 use Rattle.lego_rest.specs.Parts.{Areas, Cell, Home, Page, new_share, old_share, owns, plain_with, second_part, sides_of}
 use Rattle.lego_rest.specs.Pending.{AnAnswer, First, FromUp, Goes as BatchGoes, HandedOn, HandsOn, IsBatch, IsNot, IsOf, Left, MayPend, OfBackground, OfMove, OfOpen, OfOperation, Pends, Reaction, Returns}
 use Rattle.lego_rest.specs.Rest.{CurrentFits, IsReady, Middle, SecondHolds}
@@ -334,6 +334,7 @@ module _ (t : Track) (c : ℕ) (s : Mem) (at_c : slice_get t.mems c ≡ Some s) 
         forgotten = ap (λ (ms : List Message). gave_answer (memory c) ms (forgotten (memory c) t.current)) new_pending ∙ gave_none (memory c) t.net t.current;
         one_done = λ done. cc done;
         no_second = no_second;
+        apart = no_move t.current;
       },
     );
     idle = λ closed quiet. absurd (no_healing quiet);
@@ -341,6 +342,10 @@ module _ (t : Track) (c : ℕ) (s : Mem) (at_c : slice_get t.mems c ≡ Some s) 
     where
       no_healing : Some beginning ≡ None → ⊥
       no_healing e = cc e
+
+      no_move : (current : Option Open) → NumbersDiffer (forgotten (memory c) current) None
+      no_move None = tt
+      no_move (Some o) = tt
 
   -- SECONDARIES that are up: what was due is due, or the operation changes no page
   same_page : (j : ℕ) (pid vpn : ℕ) (x : Mem) (o : Open) → t.current ≡ Some o → PagesStay o.operation → SecondHolds before j x → second_part t.owners t.disk.images j x (Page pid vpn) ≡ new_share (sides_of before) j (Page pid vpn)
@@ -420,7 +425,7 @@ module _ (t : Track) (c : ℕ) (s : Mem) (at_c : slice_get t.mems c ≡ Some s) 
         memories = λ m x up at.
             let was : slice_get t.mems m ≡ Some x = sym (get_set_other t.mems c m (lost s) up) ∙ at in
             let id : x.id ≡ m = (middle.forms m x was).id in
-            mem_stays (Some c) before mems now on m x (gave (memory m)) (batches x.id (λ same. up (sym (sym id ∙ same)))) changes (middle.memories m x tt was);
+            mem_stays (Some c) before mems now on m x (gave (memory m)) (batches x.id (λ same. up (sym (sym id ∙ same)))) (λ b place. changes b) (middle.memories m x tt was);
         seconds = λ j x below up at.
             let was : slice_get t.mems (secondary_of (memory_count t.shape) j) ≡ Some x = sym (get_set_other t.mems c (secondary_of (memory_count t.shape) j) (lost s) up) ∙ at in
             let holds = middle.seconds j x below tt was in

@@ -59,6 +59,7 @@ module _ (lost : Option ℕ) (t : Track) (m : Message) (may : MayDeliver t m) (i
           forgotten = back_false (gave_answer (memory h.memory.0) (all_pending t) t.current) (gave_answer (memory h.memory.0) (rest_of ++ t.owed) t.current) (gave_less (memory h.memory.0) (all_pending t) (rest_of ++ t.owed) m (whole t m may) t.current) holds.forgotten;
           one_done = λ done. sym (done_same t.net rest_of m (split t m may) t.current not_current) ∙ holds.one_done (done_same t.net rest_of m (split t m may) h.current none ∙ done);
           no_second = holds.no_second;
+          apart = holds.apart;
         },
       )
 

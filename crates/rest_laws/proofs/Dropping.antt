@@ -21,7 +21,7 @@ use Rattle.rest_laws.specs.KindsEnding.{SpacesEnd}
 use Rattle.lego_msg.specs.declared.place.Place.TheVariants as place
 
 -- WHO IS A TARGET: each memory that is there, and storage
-each_among : (count number : ℕ) (what last : Body) (j : ℕ) → number ≤ j → j < number + count → is_among (memory j) (receivers (each_from count number what last)) ≡ true
+pub each_among : (count number : ℕ) (what last : Body) (j : ℕ) → number ≤ j → j < number + count → is_among (memory j) (receivers (each_from count number what last)) ≡ true
 each_among zero number what last j from below = absurd (omega (arith, from, below))
 each_among (suc count) number what last j from below = elim (eqb_tells j number) [
   | inl e ↦ ap (λ (b : Bool). b || is_among (memory j) (receivers (each_from count (number + 1) what last))) e.0
@@ -41,7 +41,7 @@ each_among (suc count) number what last j from below = elim (eqb_tells j number)
     later true e = refl
     later false e = e
 
-storage_among : (count number : ℕ) (what last : Body) → is_among place.Storage (receivers (each_from count number what last)) ≡ true
+pub storage_among : (count number : ℕ) (what last : Body) → is_among place.Storage (receivers (each_from count number what last)) ≡ true
 storage_among zero number what last = refl
 storage_among (suc count) number what last = storage_among count (number + 1) what last
 

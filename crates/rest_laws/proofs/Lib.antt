@@ -19,3 +19,9 @@ pub mod Changed
 pub mod Dropping
 pub mod Copying
 pub mod Ends
+pub mod Delivered
+pub mod Filed
+pub mod Meeting
+pub mod Replied
+pub mod Pages
+pub mod kinds

@@ -296,6 +296,7 @@ module _ (lost : Option ℕ) (t : Track) (o : Open) (m : Message) (may : MayDeli
           forgotten = back_false (gave_answer (memory h.memory.0) (all_pending open_track) (Some o)) (gave_answer (memory h.memory.0) (all_pending (taken open_track)) (Some with_answer)) (gave_before (memory h.memory.0)) holds.forgotten;
           one_done = λ done. let both : true ≡ false = sym done ∙ sym (done_same t.net (taken_out t.shape.deliveries t.delivered t.net) m (split open_track m may) h.current not_it) ∙ undone in cc both;
           no_second = holds.no_second;
+          apart = holds.apart;
         },
       )
 

@@ -97,6 +97,7 @@ module _ (lost : Option ℕ) (t : Track) (m : Message) (more : List Message) (is
           forgotten = ap (λ (ms : List Message). gave_answer (memory h.memory.0) ms t.current) same_pending ∙ holds.forgotten;
           one_done = λ done. back_false (is_done t.net t.current) (is_done (t.net ++ m ∷ []) t.current) (done_before t.net (m ∷ []) t.current) (holds.one_done (done_before t.net (m ∷ []) h.current done));
           no_second = holds.no_second;
+          apart = holds.apart;
         },
       )
 

@@ -2,24 +2,24 @@
 use Rattle.std.proofs.Common.{◌≡◌, ◌⊎◌, ◌<◌, [], ◌∷◌, ◌∙◌, ℕ, Bool, List, Option, Some, ap, eqb, false, inl, inr, length, refl, slice_get, subst, suc, sym, take, true, zero}
 use Rattle.std.proofs.lemmas.Bool.{eqb-true}
 use Rattle.std.proofs.lemmas.Bool.Decides.{eqb_tells}
-use Rattle.std.specs.List.{AllByRecursion}
+use Rattle.std.specs.List.{AllByRecursion, list_any}
 use Rattle.std.specs.Prelude.{slice_set}
 use Rattle.lego_base.specs.declared.records.PageImage.{PageImage}
 use Rattle.lego_msg.proofs.Senders.{get_set, get_set_other, same_some}
-use Rattle.lego_msg.specs.Places.{memory, same_place, secondary_of}
+use Rattle.lego_msg.specs.Places.{cache_of, memory, same_place, secondary_of}
 use Rattle.lego_msg.specs.Plain.{Plain}
-use Rattle.lego_msg.specs.State.{Disk, Mem}
+use Rattle.lego_msg.specs.State.{Block, Disk, Mem}
 use Rattle.lego_msg.specs.Track.{Track, memory_count}
 use Rattle.lego_msg.specs.declared.message.Message.{Message}
 use Rattle.lego_rest.specs.Answers.{all_pending, gave_answer, main_due, second_due}
-use Rattle.lego_rest.specs.Fits.{BatchFits, BlockFits, HasBatch, MemFits, background, batch_message, receipt}
+use Rattle.lego_rest.specs.Fits.{BatchFits, BlockFits, HasBatch, MemFits, background, batch_message, changes_block, receipt}
 use Rattle.lego_rest.specs.Parts.{Areas, Cell, Held, Holds, Home, Page, main_part, new_share, old_share, second_part, share, sides_of}
 use Rattle.lego_rest.specs.Pending.{IsUp}
 use Rattle.lego_rest.specs.Rest.{DiskHolds, MemHolds, Middle, SecondHolds}
 use Rattle.rest_laws.proofs.Moving.{holds-move}
 use Rattle.rest_laws.proofs.Opened.{every}
 use Rattle.rest_laws.specs.Moves.{Moves}
-use Rattle.rest_laws.specs.Steps.{Goes, Moment, NoNewAnswer, NoNewChange, NoNewImages, Row, RowKeeps, ShiftKeeps, Storing, StoringKeeps, pending_in, stepped}
+use Rattle.rest_laws.specs.Steps.{Goes, Moment, NoNewAnswer, NoNewImages, Row, RowKeeps, ShiftKeeps, Storing, StoringKeeps, pending_in, stepped}
 use Rattle.lego_msg.specs.declared.place.Place.TheVariants as place
 
 pub set_length : {X : Type 0} (xs : List X) (i : ℕ) (x : X) → length (slice_set xs i x) ≡ length xs
@@ -68,8 +68,8 @@ module _ (lost : Option ℕ) (t : Track) (mems : List Mem) (disk : Disk) (y : Mo
   due_before k answered images (Areas pid region) is = answered is
   due_before k answered images (Page pid vpn) is = images is
 
-  blocks_stay : (n m : ℕ) (s : Mem) → NoNewChange t y → AllByRecursion (BlockFits n m t.disk.files (all_pending t)) s.blocks → AllByRecursion (BlockFits n m t.disk.files (pending_in y)) s.blocks
-  blocks_stay n m s changes fits = every (λ b fit. record { place = fit.place; below = fit.below; same = fit.same; still = changes b fit.still }) s.blocks fits
+  blocks_stay : (n m : ℕ) (s : Mem) → ((b : Block) → cache_of n b.file ≡ m → list_any (λ (m : Message). changes_block b m.body) (all_pending t) ≡ false → list_any (λ (m : Message). changes_block b m.body) (pending_in y) ≡ false) → AllByRecursion (BlockFits n m t.disk.files (all_pending t)) s.blocks → AllByRecursion (BlockFits n m t.disk.files (pending_in y)) s.blocks
+  blocks_stay n m s changes fits = every (λ b fit. record { place = fit.place; below = fit.below; same = fit.same; still = changes b fit.place fit.still }) s.blocks fits
 
 -- storage, where a step doesn't change it
 pub disk_stays : (lost : Option ℕ) (t : Track) (mems : List Mem) (y : Moment) → Goes lost t mems t.disk y → NoNewAnswer t y place.Storage → DiskHolds t → DiskHolds (stepped t mems t.disk y)
@@ -88,7 +88,7 @@ disk_stays lost t mems y goes answered holds = record {
     by (inr e) = inr (e ∙ same)
 
 -- a memory, where a step doesn't change it
-pub mem_stays : (lost : Option ℕ) (t : Track) (mems : List Mem) (y : Moment) → Goes lost t mems t.disk y → (m : ℕ) (s : Mem) → NoNewAnswer t y (memory m) → background s.id (pending_in y) ≡ background s.id (all_pending t) → NoNewChange t y → MemHolds t m s → MemHolds (stepped t mems t.disk y) m s
+pub mem_stays : (lost : Option ℕ) (t : Track) (mems : List Mem) (y : Moment) → Goes lost t mems t.disk y → (m : ℕ) (s : Mem) → NoNewAnswer t y (memory m) → background s.id (pending_in y) ≡ background s.id (all_pending t) → ((b : Block) → cache_of (memory_count t.shape) b.file ≡ m → list_any (λ (m : Message). changes_block b m.body) (all_pending t) ≡ false → list_any (λ (m : Message). changes_block b m.body) (pending_in y) ≡ false) → MemHolds t m s → MemHolds (stepped t mems t.disk y) m s
 mem_stays lost t mems y goes m s answered batch changes holds = record {
   part = own lost t mems t.disk y goes m s s (λ c. inl refl) (λ is. inl (answered is)) holds.part;
   batch = batch_stays (all_pending t) (pending_in y) t.disk.images s batch holds.batch;
@@ -111,7 +111,7 @@ shift-keeps lost t y shift middle =
       plain = middle.plain;
       forms = middle.forms;
       current = goes.current;
-      memories = λ m s up at. mem_stays lost t t.mems y goes m s (shift.answered (memory m)) (shift.batches s.id) shift.changes (middle.memories m s up at);
+      memories = λ m s up at. mem_stays lost t t.mems y goes m s (shift.answered (memory m)) (shift.batches s.id) (λ b place. shift.changes b) (middle.memories m s up at);
       seconds = λ j x below up at. second_stays lost t t.mems y goes j x (shift.answered (memory (secondary_of (memory_count t.shape) j))) (shift.images (secondary_of (memory_count t.shape) j)) (middle.seconds j x below up at);
       disk = disk_stays lost t t.mems y goes (shift.answered place.Storage) middle.disk;
       pending = goes.pending;
@@ -164,7 +164,7 @@ module _ (lost : Option ℕ) (t : Track) (k : ℕ) (s s' : Mem) (y : Moment) (at
       other differ was =
           let id : x.id ≡ m = (middle.forms m x was).id in
           let batch : background x.id (pending_in y) ≡ background x.id (all_pending t) = row.batches x.id (λ same. differ (same ∙ id)) in
-          mem_stays lost t (slice_set t.mems k s') y row.goes m x (row.answered (memory m) (apart_places k m differ)) batch row.changes (middle.memories m x up was)
+          mem_stays lost t (slice_set t.mems k s') y row.goes m x (row.answered (memory m) (apart_places k m differ)) batch (λ b place. row.changes b (λ same. differ (same ∙ place))) (middle.memories m x up was)
 
   seconds_new : (j : ℕ) (x : Mem) → j < memory_count t.shape → IsUp lost (secondary_of (memory_count t.shape) j) → slice_get (slice_set t.mems k s') (secondary_of (memory_count t.shape) j) ≡ Some x → SecondHolds (stepped t (slice_set t.mems k s') t.disk y) j x
   seconds_new j x below up at = at_each (λ (m : ℕ) (x : Mem). SecondHolds (stepped t (slice_set t.mems k s') t.disk y) j x) (secondary_of (memory_count t.shape) j) x at mine other

@@ -5,7 +5,7 @@ use Rattle.std.specs.List.{AllByRecursion, list_any}
 use Rattle.std.specs.Prelude.{◌≡◌, ◌⊎◌, ◌/◌, ◌<◌, [], ◌++◌, ℕ, Bool, List, None, Option, Some, false, slice_get, slice_set, true}
 use Rattle.lego_msg.specs.Maps.{owner_of, page_in}
 use Rattle.lego_msg.specs.Marks.{Mark}
-use Rattle.lego_msg.specs.Places.{memory, same_place, secondary_of}
+use Rattle.lego_msg.specs.Places.{cache_of, memory, same_place, secondary_of}
 use Rattle.lego_msg.specs.State.{Block, Disk, Mem}
 use Rattle.lego_msg.specs.Track.{Caches, Track, healing_move, memory_count}
 use Rattle.lego_msg.specs.declared.clock.Clock.{Clock}
@@ -111,7 +111,8 @@ pub record Row (lost : Option ℕ) (t : Track) (k : ℕ) (s s' : Mem) (y : Momen
   pub answered : (p : Place) → same_place p (memory k) ≡ false → NoNewAnswer t y p
   pub images : (j : ℕ) → (k ≡ j → ⊥) → NoNewImages t (slice_set t.mems k s') t.disk y j
   pub batches : (m : ℕ) → (k ≡ m → ⊥) → SameBackground t y m
-  pub changes : NoNewChange t y
+  -- what is on its way now may change blocks that k itself caches
+  pub changes : (b : Block) → (k ≡ cache_of (memory_count t.shape) b.file → ⊥) → list_any (λ (m : Message). changes_block b m.body) (all_pending t) ≡ false → list_any (λ (m : Message). changes_block b m.body) (pending_in y) ≡ false
 
 abbrev pub RowKeeps : Type 0
 RowKeeps = (lost : Option ℕ) (t : Track) (k : ℕ) (s s' : Mem) (y : Moment) → slice_get t.mems k ≡ Some s → Row lost t k s s' y → Middle lost t → Middle lost (stepped t (slice_set t.mems k s') t.disk y)

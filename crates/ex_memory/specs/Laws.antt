@@ -1,0 +1,71 @@
+-- What a reader may ask of the script.
+use Rattle.std.specs.Prelude.{◌≡◌, ◌<◌, ℕ, List, [], ◌∷◌, ◌++◌, length}
+use Rattle.lego_base.specs.Files.{file_bytes, with_file_bytes}
+use Rattle.lego_base.specs.Pieces.{written_at}
+use Rattle.lego_base.specs.Space.{Space}
+use Rattle.lego_msg.specs.Plain.{Plain, effect, with_files}
+use Rattle.placement.specs.Owners.{Placing, Inherits, Drops as Ends, placed_all}
+use Rattle.lego_msg.specs.Laws.{shows}
+use Rattle.lego_msg.specs.Marks.{Mark}
+use Rattle.linux_model.specs.Effects.{Effect, Kind, Store, CopyOut, Writes, Maps, Protects, Copies, Drops, applies}
+use Rattle.linux_model.specs.State.{Kernel}
+use Rattle.linux_model.specs.Held.{held_in, held_after}
+use Rattle.ex_memory.specs.Cuts.{BLOCK, Chunk, chunks}
+use Rattle.ex_memory.specs.Now.{Now, pid_no}
+use Rattle.ex_memory.specs.Touches.{write_parts, refused_parts, walked}
+use Rattle.ex_memory.specs.Regions.{placings}
+use Rattle.ex_memory.specs.Script.{script, passed, all_passed, writes_block}
+use Rattle.ex_memory.specs.Seen.{undropped, all_seen}
+
+-- the script of effects and then of others is the one and then the other
+pub record ScriptsJoin : Type 0 where
+  pub marks : (n : Now) (es fs : List Effect) (rest : List Mark) → script n (es ++ fs) rest ≡ script n es (script (all_passed n es) fs rest)
+  pub left : (n : Now) (es fs : List Effect) → all_passed n (es ++ fs) ≡ all_passed (all_passed n es) fs
+
+-- what the script depends on goes with the plain kernel
+abbrev pub ScriptGoesWithTheKernel : Type 0
+ScriptGoesWithTheKernel = (n : Now) (es : List Effect) (k : Kernel) → held_in k ≡ n.held → held_in (applies es k) ≡ (all_passed n es).held
+
+-- Drops of lines aside, the script shows exactly what the plain kernel's run shows, whatever the caches, the owners and the
+-- placement are.
+abbrev pub ScriptShowsTheFlatRun : Type 0
+ScriptShowsTheFlatRun = (n : Now) (es : List Effect) → undropped (shows (script n es [])) ≡ all_seen n.shape.processors n.held es
+
+-- ---- parts and wholes
+
+-- What the parts of an access make of spaces, one after the other, is what the access makes of them: a store or a copy to the
+-- space writes its bytes, and what is read or refused changes nothing.
+pub record PartsMakeTheWhole : Type 0 where
+  pub stores : (n : Now) (pid at : ℕ) (bytes : List ℕ) → (walked n (write_parts Store pid at bytes)).held ≡ held_after (Writes Store pid at bytes) n.held
+  pub copies : (n : Now) (pid at : ℕ) (bytes : List ℕ) → (walked n (write_parts CopyOut pid at bytes)).held ≡ held_after (Writes CopyOut pid at bytes) n.held
+  pub refusals : (n : Now) (kind : Kind) (pid at size : ℕ) (space : Space) → (walked n (refused_parts kind pid at size space)).held ≡ n.held
+
+-- writes of blocks on the plain map, one after the other
+abbrev pub blocks_put : ℕ → List Chunk → Plain → Plain
+blocks_put file [] f = f
+blocks_put file (c ∷ blocks) f = blocks_put file blocks (effect (writes_block file c) f)
+
+-- The blocks of a write make of a file what the write makes.
+abbrev pub BlocksMakeTheFile : Type 0
+BlocksMakeTheFile =
+    (file off : ℕ) (bytes : List ℕ) (f : Plain) → 0 < length bytes
+    → blocks_put file (chunks BLOCK off bytes) f ≡ with_files (record f.files { files = with_file_bytes f.files.files file (written_at (file_bytes f.files.files file) off bytes) }) f
+
+-- ---- owners
+
+-- what an effect makes of owners: those of a mapping by turns, those of a child, and the end of a space
+abbrev pub placings_of : Now → Effect → List Placing
+placings_of n (Maps pid areas) = placings n pid areas
+placings_of n (Protects pid first pages areas) = placings n pid areas
+placings_of n (Copies parent child) = Inherits (pid_no parent) (pid_no child) ∷ []
+placings_of n (Drops pid) = Ends (pid_no pid) ∷ []
+placings_of n other = []
+
+abbrev pub all_placings : Now → List Effect → List Placing
+all_placings n [] = []
+all_placings n (e ∷ es) = placings_of n e ++ all_placings (passed n e) es
+
+-- Owners are those of the rule: the k-th assignment of the run takes its turn of the placement list, and nothing but a
+-- mapping, a fork and the end of a space changes them.
+abbrev pub OwnersGoByTurns : Type 0
+OwnersGoByTurns = (n : Now) (es : List Effect) → (all_passed n es).owned ≡ placed_all (all_placings n es) n.owned

@@ -1,0 +1,16 @@
+pub mod Kind
+pub mod Asking
+pub mod Cells
+pub mod Twice
+pub mod Setting
+pub mod Filing
+pub mod Names
+pub mod Logging
+pub mod Draining
+pub mod Writing
+pub mod Images
+pub mod Unmapping
+pub mod Spaces
+pub mod Copied
+pub mod Copies
+pub mod Naming
