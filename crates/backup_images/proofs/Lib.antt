@@ -6,3 +6,4 @@ pub mod Filters
 pub mod Weights
 pub mod Twice
 pub mod Cuts
+pub mod Fresh

@@ -197,7 +197,7 @@ not_later k x (y ∷ ys) r e =
 not_below : (k : Key) (x : PageImage) (xs : List PageImage) → Rises page_key (x ∷ xs) → is_below k (page_key x) ≡ true → page_in (x ∷ xs) k.pid k.number ≡ None
 not_below k x xs r below = ap image_bytes (ap (λ b. cond b (Some x) (find page_key k xs)) (above_differs k (page_key x) below) ∙ none_above page_key k x xs r below)
 
-same_pages : (xs ys : List PageImage) → Rises page_key xs → Rises page_key ys → ((pid vpn : ℕ) → page_in xs pid vpn ≡ page_in ys pid vpn) → xs ≡ ys
+pub same_pages : (xs ys : List PageImage) → Rises page_key xs → Rises page_key ys → ((pid vpn : ℕ) → page_in xs pid vpn ≡ page_in ys pid vpn) → xs ≡ ys
 same_pages [] [] r s same = refl
 same_pages [] (y ∷ ys) r s same = let e : ◌≡◌ {A = Option (List ℕ)} None (Some y.bytes) = same y.pid.0 y.vpn.0 ∙ first_found y ys in cc e
 same_pages (x ∷ xs) [] r s same = let e : ◌≡◌ {A = Option (List ℕ)} (Some x.bytes) None = sym (first_found x xs) ∙ same x.pid.0 x.vpn.0 in cc e

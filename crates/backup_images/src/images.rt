@@ -1,7 +1,7 @@
 //! The images of pages at storage.
 
 ghost use Rattle.std.specs.Prelude.{◌≡◌, ◌≤◌, [], ◌∷◌, ◌++◌, IfOk, OnOk, OnErr, drop, length, map, take};
-ghost use Rattle.lego_base.specs.Keys.{Rises, is_of, is_page_from, without};
+ghost use Rattle.lego_base.specs.Keys.{Rises, is_of, is_page_from, put_all, without};
 ghost use Rattle.lego_base.specs.declared.records.PageImage.{PageImage};
 ghost use Rattle.lego_msg.specs.Maps.{copied_pages, overlaid, page_key, pages_of, with_pages};
 
@@ -59,10 +59,9 @@ impl Images {
         ensures images { OnOk result (images_in self.new ≡ overlaid batch.now (images_in self.old)) }
         ensures err { OnErr result (self.new ≡ self.old) }
     {
-        let mut images = pages::copied(self.alloc, self.pages.as_slice())?;
-        pages::lay_all(self.alloc, &mut images, batch)?;
+        let fresh = pages::patched(self.alloc, self.pages.as_slice(), batch)?;
         let batch = Seq::from_vec(Vec::from_clones(self.alloc, batch)?);
-        self.append(Seg::Patches(batch), images)
+        self.put(fresh, Seg::Patches(batch))
     }
 
     /// Drops the images of pages.
@@ -149,6 +148,28 @@ impl Images {
         let mut segments = Vec::new(self.alloc);
         segments.push(segment)?;
         self.commit(segments, pages)
+    }
+
+    // Adds a segment that puts images in their places. The other images stay where they are, unless the list may become too
+    // heavy.
+    fn put(&mut self, fresh: Vec<Page>, segment: Seg) -> Result<(), NoMemory>
+        requires { put_all page_key fresh.items (images_in self.old) ≡ after_segment (images_in self.old) segment }
+        ensures ok { OnOk result (self.new ≡ compacted (self.old ++ segment ∷ [])) }
+        ensures images { OnOk result (images_in self.new ≡ after_segment (images_in self.old) segment) }
+        ensures err { OnErr result (self.new ≡ self.old) }
+    {
+        let weight = weight_with(self.weight, &segment)?;
+        if is_heavy(weight, self.pages.len()) {
+            let mut pages = pages::copied(self.alloc, self.pages.as_slice())?;
+            pages.reserve(fresh.len())?;
+            pages::put_fresh(&mut pages, fresh);
+            return self.append(segment, pages);
+        }
+        self.pages.reserve(fresh.len())?;
+        self.segments.push(segment)?;
+        pages::put_fresh(&mut self.pages, fresh);
+        self.weight = weight;
+        Ok(())
     }
 
     // Adds a segment that drops the images from one place to before another. The other images stay where they are.

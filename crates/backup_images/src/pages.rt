@@ -1,6 +1,6 @@
 //! Images of pages in rising order, as vectors.
 
-ghost use Rattle.std.specs.Prelude.{◌≡◌, ◌+◌, ◌^◌, ◌<◌, ◌≤◌, ◌++◌, IfOk, MatchOption, None, OnOk, Some, drop, length, map, take};
+ghost use Rattle.std.specs.Prelude.{◌≡◌, ◌+◌, ◌^◌, ◌<◌, ◌≤◌, ◌++◌, IfOk, MatchOption, None, OnOk, Some, drop, length, map, take, vec_capacity};
 ghost use Rattle.lego_base.specs.Keys.{Rises, is_of, is_page_from, is_page_of, put, put_all};
 ghost use Rattle.lego_base.specs.Pieces.{laid_over};
 ghost use Rattle.lego_msg.specs.Maps.{for_child, overlaid, page_at, page_in, page_key, pages_of, patched, with_pages};
@@ -65,28 +65,63 @@ fn patched_bytes(alloc: Global, pages: &[Page], patch: &Patch) -> Result<Bytes, 
     }
 }
 
-// Lays a patch over its page.
-fn lay(alloc: Global, pages: &mut Vec<Page>, patch: &Patch) -> Result<(), NoMemory>
-    requires { Rises page_key pages.old.items }
-    ensures { OnOk result (pages.new.items ≡ patched patch.now pages.old.items) }
+// The bytes of a page with a patch laid over them, where some pages are laid over others already.
+fn patched_over(
+    alloc: Global,
+    fresh: &[Page],
+    pages: &[Page],
+    patch: &Patch,
+) -> Result<Bytes, NoMemory>
+    requires fresh { Rises page_key fresh.now }
+    requires pages { Rises page_key pages.now }
+    ensures { let p = patch.now in
+        IfOk result (λ b. b ≡ laid_over (page_at (put_all page_key fresh.now pages.now) p.pid.0 p.vpn.0) p.off p.bytes) }
 {
-    let bytes = patched_bytes(alloc, pages, patch)?;
-    put(alloc, pages, patch.pid, patch.vpn, bytes)
+    match find(fresh, patch.pid, patch.vpn) {
+        Some(old) => laid_over(alloc, old, patch.off as usize, patch.bytes.as_slice()),
+        None => patched_bytes(alloc, pages, patch),
+    }
 }
 
-/// Lays patches over their pages, in order.
-pub(crate) fn lay_all(
-    alloc: Global,
-    pages: &mut Vec<Page>,
-    patches: &[Patch],
-) -> Result<(), NoMemory>
-    requires { Rises page_key pages.old.items }
-    ensures { OnOk result (pages.new.items ≡ overlaid patches.now pages.old.items) }
+// Lays a patch over its page, where some pages are laid over others already.
+fn lay(alloc: Global, fresh: &mut Vec<Page>, pages: &[Page], patch: &Patch) -> Result<(), NoMemory>
+    requires fresh { Rises page_key fresh.old.items }
+    requires pages { Rises page_key pages.now }
+    ensures rises { OnOk result (Rises page_key fresh.new.items) }
+    ensures pages { OnOk result (put_all page_key fresh.new.items pages.now ≡ patched patch.now (put_all page_key fresh.old.items pages.now)) }
 {
+    let bytes = patched_over(alloc, fresh, pages, patch)?;
+    put(alloc, fresh, patch.pid, patch.vpn, bytes)
+}
+
+/// The pages that patches change, with these laid over them in order. The pages themselves stay as they are.
+pub(crate) fn patched(
+    alloc: Global,
+    pages: &[Page],
+    patches: &[Patch],
+) -> Result<Vec<Page>, NoMemory>
+    requires { Rises page_key pages.now }
+    ensures { IfOk result (λ v. put_all page_key v.items pages.now ≡ overlaid patches.now pages.now) }
+{
+    let mut fresh = Vec::new(alloc);
     for patch in patches {
-        lay(alloc, pages, patch)?;
+        lay(alloc, &mut fresh, pages, patch)?;
     }
-    Ok(())
+    Ok(fresh)
+}
+
+/// Puts pages in their places, in order. There is room for them.
+pub(crate) fn put_fresh(pages: &mut Vec<Page>, fresh: Vec<Page>)
+    requires rises { Rises page_key pages.old.items }
+    requires room { length pages.old.items + length fresh.items ≤ vec_capacity pages.old }
+    ensures { pages.new.items ≡ put_all page_key fresh.items pages.old.items }
+{
+    for page in fresh {
+        match keyed_list::put(pages, page) {
+            Ok(()) => {}
+            Err(_) => unreachable!(), // there is room
+        }
+    }
 }
 
 /// Where some pages begin, and where those after them do.

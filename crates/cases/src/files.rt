@@ -50,3 +50,19 @@ fn a_block_has_what_was_written(rt: HostRuntime) -> Result<(), Fail> {
     assert!(rt; block.as_slice().starts_with(b"\0x\0"));
     Ok(())
 }
+
+#[test]
+fn the_store_is_full_past_its_blocks(rt: HostRuntime) -> Result<(), Fail> {
+    let mut files = two_files(rt.alloc())?;
+    assert!(rt; files.has(FileNo(0)));
+    files.write_at(FileNo(0), 4096, b"x")?;
+    for (size, answer) in [
+        (4096, Ok(())),
+        (4097, Err(FileFault::StoreFull)),
+        (0, Ok(())),
+    ] {
+        assert!(rt; files.has(FileNo(1)));
+        assert_eq!(rt; files.truncate(FileNo(1), size), answer);
+    }
+    Ok(())
+}

@@ -4,5 +4,5 @@ use Rattle.lego_msg.specs.Maps.{page_key}
 use Rattle.backup_images.proofs.Groups.{images_rise}
 use Rattle.backup_images.proofs.images.Images.apply.Goals as goal
 
-pub lay_all-requires : goal.lay_all-requires
-lay_all-requires c = subst (Rises page_key) (sym (c.in_ok-images.ensures ∙ c.as_slice.ensures.value ∙ c.self.invariant.1)) (images_rise c.self.inside.segments.items [] tt)
+pub patched-requires : goal.patched-requires
+patched-requires c = subst (Rises page_key) (sym (c.as_slice.ensures.value ∙ c.self.invariant.1)) (images_rise c.self.inside.segments.items [] tt)
