@@ -1,0 +1,5 @@
+pub mod Slots
+pub mod Processes
+pub mod Files
+pub mod Kept
+pub mod Found
