@@ -1,5 +1,5 @@
 -- What holds of every kernel that a run reaches, and what an effect asks of the kernel so that it stays so.
-use Rattle.std.specs.Prelude.{◌≡◌, ◌<◌, ◌≤◌, ◌==◌, ℕ, Bool, true, false, List, [], ◌∷◌, length, Option, Some, None, is_some}
+use Rattle.std.specs.Prelude.{◌≡◌, ◌<◌, ◌≤◌, ◌==◌, ℕ, true, false, List, [], ◌∷◌, length, Option, Some, None, is_some}
 use Rattle.lego_base.specs.declared.records.NameEntry.{NameEntry}
 use Rattle.lego_base.specs.Files.{File, is_file}
 use Rattle.kernel_objects.specs.declared.descriptor.Description.{Description}
@@ -10,7 +10,7 @@ use Rattle.kernel_objects.specs.Slots.{slot, holds_some}
 use Rattle.linux_model.specs.Limits.{DESCRIPTORS}
 use Rattle.linux_model.specs.State.{Kernel, Process}
 use Rattle.linux_model.specs.Processes.{has_file, is_live}
-use Rattle.linux_model.specs.Effects.{Effect, Begins, FreesFile, Opens, Shares, Starts, Forks, Dies, apply}
+use Rattle.linux_model.specs.Effects.{Effect, FreesFile, Opens, Shares, Starts, Forks, Dies, apply}
 
 -- ---- processes
 

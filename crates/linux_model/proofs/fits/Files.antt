@@ -1,5 +1,5 @@
 -- Descriptions, pipes and files still fit after an effect on them.
-use Rattle.std.proofs.Common.{◌≡◌, ℕ, zero, suc, ◌+◌, ◌≤◌, ◌<◌, Bool, true, false, cond, eqb, ◌||◌, refl, sym, ◌∙◌, ap, subst, List, [], ◌∷◌, ◌++◌, length, slice_set, Option, Some, None, is_some, arith}
+use Rattle.std.proofs.Common.{◌≡◌, ℕ, zero, suc, ◌+◌, ◌<◌, Bool, true, false, cond, eqb, ◌||◌, refl, sym, ◌∙◌, ap, subst, List, [], ◌∷◌, ◌++◌, slice_set, Option, Some, None, is_some, arith}
 use Rattle.std.proofs.lemmas.Bool.{eq-eqb, eqb-true}
 use Rattle.lego_base.specs.declared.ids.FileNo.{FileNo}
 use Rattle.lego_base.specs.declared.records.NameEntry.{NameEntry}
@@ -7,11 +7,11 @@ use Rattle.lego_base.specs.Files.{File, is_file, with_file_bytes, without_file, 
 use Rattle.kernel_objects.specs.declared.descriptor.Description.{Description}
 use Rattle.kernel_objects.specs.declared.descriptor.Object.{Object}
 use Rattle.kernel_objects.specs.declared.descriptor.Object.TheVariants.{Regular, PipeRead, PipeWrite}
-use Rattle.kernel_objects.specs.Slots.{slot, picks, holds_some, freed, with_next}
+use Rattle.kernel_objects.specs.Slots.{slot, freed, with_next}
 use Rattle.linux_model.specs.Processes.{is_file_object, has_file, is_reading_end, is_writing_end, has_reader, has_writer}
 use Rattle.linux_model.specs.Effects.{sought}
 use Rattle.linux_model.specs.Fits.{ObjectFits, DescsFit, NamesFit, NumbersBelow}
-use Rattle.linux_model.proofs.fits.Slots.{slot_other, slot_set, parts_false}
+use Rattle.linux_model.proofs.fits.Slots.{slot_other, parts_false}
 
 apart : (a b : ℕ) → eqb a b ≡ false → b ≡ a → ⊥
 apart a b e same = let is : eqb a b ≡ true = eq-eqb a b (sym same) in cc (is, e)

@@ -1,6 +1,6 @@
 -- A process that is there, and what closing makes of it.
-use Rattle.std.proofs.Common.{◌≡◌, ℕ, zero, suc, ◌+◌, ◌≤◌, ◌<◌, Bool, true, false, cond, eqb, ◌||◌, refl, sym, ◌∙◌, ap, subst, List, [], ◌∷◌, ◌++◌, length, drop, slice_set, Option, Some, None, is_some, arith}
-use Rattle.std.proofs.lemmas.Bool.{eq-eqb, eqb-true}
+use Rattle.std.proofs.Common.{◌≡◌, ℕ, zero, suc, ◌+◌, ◌≤◌, ◌<◌, Bool, true, false, cond, eqb, ◌||◌, refl, sym, ◌∙◌, ap, subst, List, [], ◌∷◌, ◌++◌, drop, slice_set, Option, Some, None, is_some, arith}
+use Rattle.std.proofs.lemmas.Bool.{eqb-true}
 use Rattle.lego_base.specs.Files.{has_name}
 use Rattle.kernel_objects.specs.declared.descriptor.Description.{Description}
 use Rattle.kernel_objects.specs.declared.descriptor.FdEntry.{FdEntry}
@@ -9,18 +9,18 @@ use Rattle.kernel_objects.specs.declared.descriptor.Object.TheVariants.{PipeRead
 use Rattle.kernel_objects.specs.Slots.{slot, picks, holds_some, freed}
 use Rattle.linux_model.specs.State.{Kernel, Process}
 use Rattle.linux_model.specs.Processes.{at_pid, process, fds_of, is_live, is_referred, has_file, has_reader, has_writer}
-use Rattle.linux_model.specs.Effects.{Effect, Closes, FreesFile, apply, applies, at_fd, desc_at, pipe_ends, object_ends, description_ends, let_go}
+use Rattle.linux_model.specs.Effects.{Effect, Closes, FreesFile, apply, applies, at_fd, desc_at, object_ends, description_ends, let_go}
 use Rattle.linux_model.specs.Descriptors.{freeing, file_behind, closing, closing_if, closings}
-use Rattle.linux_model.specs.Fits.{PidsRise, EntriesFit, ProcsFit, LivesAt, NoneOpen, AllAllowed}
+use Rattle.linux_model.specs.Fits.{PidsRise, EntriesFit, LivesAt, NoneOpen, AllAllowed}
 use Rattle.linux_model.proofs.Folds.{applies-append}
 
 -- ---- one process by its pid
 
-abbrev unwrap : Process → Option Process → Process
+abbrev pub unwrap : Process → Option Process → Process
 unwrap p None = p
 unwrap p (Some q) = q
 
-inside : (p q : Process) → Some p ≡ Some q → p ≡ q
+pub inside : (p q : Process) → Some p ≡ Some q → p ≡ q
 inside p q e = ap (unwrap p) e
 
 pid_at : (b : Bool) (q p : Process) (rest : Option Process) (pid : ℕ) → eqb q.pid pid ≡ b → (rest ≡ Some p → eqb p.pid pid ≡ true) → cond b (Some q) rest ≡ Some p → eqb p.pid pid ≡ true
@@ -87,6 +87,9 @@ none_each : (pid : ℕ) (procs : List Process) → EachAt (λ p. holds_some (λ 
 none_each pid [] e = tt
 none_each pid (p ∷ procs) e = (e.0, none_each pid procs e.1)
 
+pub no_other : (low last : ℕ) (procs : List Process) (pid : ℕ) → PidsRise low last procs → pid ≤ low → LivesAt pid procs
+no_other low last procs pid r h = lives_each pid procs (each_none (λ p. is_live p.state ≡ true) pid procs (above low last procs pid r h))
+
 pub lives_found : (pid last : ℕ) (procs : List Process) (p : Process) → PidsRise 0 last procs → process procs pid ≡ Some p → is_live p.state ≡ true → LivesAt pid procs
 lives_found pid last procs p r e live = lives_each pid procs (each_found (λ p. is_live p.state ≡ true) pid 0 last procs p r e live)
 
@@ -141,7 +144,7 @@ freeing_procs (Some file) k = freed_procs (has_file file k.descs) (has_name k.na
 pub closing_procs : (pid fd : ℕ) (k : Kernel) → (applies (closing pid fd k) k).procs ≡ at_pid pid (at_fd fd None) k.procs
 closing_procs pid fd k = freeing_procs (file_behind (process k.procs pid) fd k) (apply (Closes pid fd) k) ∙ closed_procs pid fd k
 
-frees_allowed : (b : Bool) (file : ℕ) (k : Kernel) → has_file file k.descs ≡ b → AllAllowed (cond b [] (FreesFile file ∷ [])) k
+pub frees_allowed : (b : Bool) (file : ℕ) (k : Kernel) → has_file file k.descs ≡ b → AllAllowed (cond b [] (FreesFile file ∷ [])) k
 frees_allowed true file k e = tt
 frees_allowed false file k e = (e, tt)
 
@@ -214,12 +217,15 @@ all_closed pid n p fds [] k is e = (n, (is, e))
 all_closed pid n p fds (x ∷ rest) k is e =
     let one : n + 1 ≡ suc n = omega arith in
     let l : Kernel = applies (closing_if (picks (λ e. true) x) pid n k) k in
-    let more = all_closed pid (suc n) p fds rest l (closes_on x pid n p fds rest k is e) (next_drop n fds x rest e) in
-    (more.0, (
-      ap (λ (k : Kernel). process k.procs pid) (applies-append (closing_if (picks (λ e. true) x) pid n k) (closings (λ e. true) pid (n + 1) rest l) k)
-      ∙ ap (λ (m : ℕ). process (applies (closings (λ e. true) pid m rest l) l).procs pid) one
-      ∙ more.1.0,
-      more.1.1))
+    let more = all_closed pid (suc n) p fds rest l (closes_on x pid n p fds rest k is e) (next_drop n fds x rest e) in (
+      more.0,
+      (
+        ap (λ (k : Kernel). process k.procs pid) (applies-append (closing_if (picks (λ e. true) x) pid n k) (closings (λ e. true) pid (n + 1) rest l) k)
+            ∙ ap (λ (m : ℕ). process (applies (closings (λ e. true) pid m rest l) l).procs pid) one
+            ∙ more.1.0,
+        more.1.1,
+      ),
+    )
 
 pub none_after : (pid : ℕ) (p : Process) (k : Kernel) → process k.procs pid ≡ Some p → (q : Process) × ((process (applies (closings (λ e. true) pid 0 p.fds k) k).procs pid ≡ Some q) × (holds_some (λ e. true) q.fds ≡ false))
 none_after pid p k is =

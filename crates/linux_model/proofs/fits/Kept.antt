@@ -1,7 +1,6 @@
 -- What fits still fits after an effect that is allowed.
-use Rattle.std.proofs.Common.{◌≡◌, ℕ, ◌+◌, ◌<◌, ◌≤◌, Bool, true, false, cond, leb, ◌||◌, refl, sym, ◌∙◌, ap, List, [], ◌∷◌, ◌++◌, length, drop, Option, Some, None, is_some, arith}
-use Rattle.lego_base.specs.declared.records.NameEntry.{NameEntry}
-use Rattle.lego_base.specs.Files.{File, is_file, with_file_bytes, without_file, file_bytes, named, has_name, with_name, without_name}
+use Rattle.std.proofs.Common.{◌≡◌, ℕ, ◌+◌, ◌<◌, Bool, true, false, cond, leb, ◌||◌, refl, ap, List, [], ◌∷◌, ◌++◌, length, drop, Option, Some, None, is_some, arith}
+use Rattle.lego_base.specs.Files.{File, with_file_bytes, without_file, file_bytes, named, has_name, with_name}
 use Rattle.lego_base.specs.Pieces.{of_size, written_at}
 use Rattle.rv64_step.specs.declared.cpu.Cpu.{Cpu}
 use Rattle.kernel_objects.specs.declared.descriptor.Description.{Description}
@@ -12,8 +11,8 @@ use Rattle.kernel_objects.specs.Slots.{slot, freed, next_slot, with_next}
 use Rattle.linux_model.specs.Limits.{FILES}
 use Rattle.linux_model.specs.State.{Kernel, Process}
 use Rattle.linux_model.specs.Processes.{at_pid, process, fds_of, is_referred, has_reader, has_writer, first_process, child_of}
-use Rattle.linux_model.specs.Effects.{Effect, MakesFile, Unlinks, FreesFile, WritesFile, CutsFile, Opens, Shares, Closes, Seeks, MakesPipe, PutsPipe, TakesPipe, Goes, Returns, Keeps, Breaks, Starts, Forks, Dies, Reaps, apply, applies, at_fd, desc_at, pipe_ends, object_ends, description_ends, let_go, forked, pipe_bytes, with_new_file}
-use Rattle.linux_model.specs.Fits.{Fits, ProcessFits, ProcsFit, Allowed, AllAllowed}
+use Rattle.linux_model.specs.Effects.{Effect, MakesFile, Unlinks, FreesFile, WritesFile, CutsFile, Opens, Shares, Closes, Seeks, MakesPipe, PutsPipe, TakesPipe, Goes, Returns, Keeps, Breaks, Starts, Forks, Dies, Reaps, apply, applies, at_fd, desc_at, pipe_ends, object_ends, description_ends, let_go, forked, pipe_bytes}
+use Rattle.linux_model.specs.Fits.{Fits, ProcessFits, Allowed, AllAllowed}
 use Rattle.linux_model.proofs.fits.Slots.{slot_set, next_keeps, next_holds, parts_false}
 use Rattle.linux_model.proofs.fits.Processes.{pids_at, pids_filter, pids_more, procs_each, procs_grow, procs_open, procs_without, procs_filter, procs_more, closes_fits, death_rises, death_fits, process_fits, child_fits}
 use Rattle.linux_model.proofs.fits.Files.{descs_grow, descs_next, descs_free, descs_sought, descs_without, descs_freed, sought_keeps, more_files, last_file, same_files, names_grow, names_freed, names_with, names_without, numbers_more, numbers_same, numbers_without}

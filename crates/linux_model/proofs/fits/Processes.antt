@@ -1,12 +1,12 @@
 -- Processes still fit after an effect on them.
-use Rattle.std.proofs.Common.{◌≡◌, ℕ, zero, suc, ◌+◌, ◌≤◌, ◌<◌, Bool, true, false, cond, not, eqb, ◌==◌, ◌||◌, refl, sym, ◌∙◌, ap, subst, List, [], ◌∷◌, ◌++◌, map, filter, length, slice_set, Option, Some, None, is_some, arith}
+use Rattle.std.proofs.Common.{◌≡◌, ℕ, zero, suc, ◌≤◌, ◌<◌, Bool, true, false, cond, eqb, ◌==◌, ◌||◌, refl, sym, ◌∙◌, ap, subst, List, [], ◌∷◌, ◌++◌, map, filter, slice_set, Option, Some, None, is_some, arith}
 use Rattle.std.proofs.lemmas.Bool.{eq-eqb}
 use Rattle.kernel_objects.specs.declared.descriptor.Description.{Description}
 use Rattle.kernel_objects.specs.declared.descriptor.FdEntry.{FdEntry}
 use Rattle.kernel_objects.specs.Slots.{slot, picks, holds_some, freed}
 use Rattle.rv64_step.specs.declared.cpu.Cpu.{Cpu}
-use Rattle.linux_model.specs.State.{Process, Live, Zombie}
-use Rattle.linux_model.specs.Processes.{at_pid, process, is_live, is_referred, orphaned, heir, stays, after_death, without_process, child_of}
+use Rattle.linux_model.specs.State.{Process, Zombie}
+use Rattle.linux_model.specs.Processes.{at_pid, process, is_live, is_referred, orphaned, heir, stays, after_death, child_of}
 use Rattle.linux_model.specs.Effects.{at_fd}
 use Rattle.linux_model.specs.Fits.{PidsRise, EntriesFit, ProcessFits, ProcsFit, LivesAt, NoneOpen}
 use Rattle.linux_model.proofs.fits.Slots.{slot_other, length_set, parts_false}

@@ -1,7 +1,7 @@
 -- What is in slots after one of them was set, or the next one was filled.
-use Rattle.std.proofs.Common.{◌≡◌, ℕ, zero, suc, ◌+◌, ◌≤◌, ◌<◌, Bool, true, false, cond, eqb, ltb, ◌||◌, refl, sym, ◌∙◌, ap, subst, List, [], ◌∷◌, ◌++◌, length, slice_get, slice_set, Option, Some, None, is_some, unwrap_or, arith}
+use Rattle.std.proofs.Common.{◌≡◌, ℕ, zero, suc, ◌+◌, Bool, true, false, cond, ltb, ◌||◌, refl, sym, ◌∙◌, ap, List, [], ◌∷◌, length, slice_set, Option, Some, None, is_some, unwrap_or, arith}
 use Rattle.std.proofs.lemmas.Bool.{le-ltb}
-use Rattle.kernel_objects.specs.Slots.{slot, picks, holds_some, freed, free_from, lowest_free, next_slot, with_next}
+use Rattle.kernel_objects.specs.Slots.{slot, picks, holds_some, free_from, next_slot, with_next}
 
 from_zero : (n : ℕ) → ltb n 0 ≡ false
 from_zero n = le-ltb n 0 (omega arith)
