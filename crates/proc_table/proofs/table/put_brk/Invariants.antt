@@ -1,0 +1,7 @@
+use Rattle.std.proofs.Common.{◌≡◌, ◌++◌, drop, take, map}
+use Rattle.proc_table.specs.Changes.{after_brk}
+use Rattle.proc_table.specs.Entries.{process_of}
+use Rattle.proc_table.proofs.table.put_brk.Given as goal
+
+abbrev pub invariant-loop-entry : goal.invariant-loop-entry
+invariant-loop-entry l = map process_of l.entries ≡ map (after_brk l.pid.0 l.brk) (take l.entry-index (map process_of l.initial.entries)) ++ drop l.entry-index (map process_of l.initial.entries)

@@ -1,0 +1,7 @@
+use Rattle.std.proofs.Common.{◌≡◌, ◌++◌, drop, take, map}
+use Rattle.proc_table.specs.Changes.{after_cpu}
+use Rattle.proc_table.specs.Entries.{process_of}
+use Rattle.proc_table.proofs.table.put_cpu.Given as goal
+
+abbrev pub invariant-loop-entry : goal.invariant-loop-entry
+invariant-loop-entry l = map process_of l.entries ≡ map (after_cpu l.pid.0 l.cpu) (take l.entry-index (map process_of l.initial.entries)) ++ drop l.entry-index (map process_of l.initial.entries)
