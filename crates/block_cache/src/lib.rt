@@ -5,8 +5,10 @@
 #![tactic(auto)]
 
 mod blocks;
+mod laws;
 
 pub use blocks::Blocks;
+pub use laws::reads_are_the_files;
 
 #[cfg(test)]
 mod tests;

@@ -1,6 +1,6 @@
 //! Frames: the bytes of present pages.
 
-ghost use Rattle.std.specs.Prelude.{◌≡◌, ◌+◌, ◌≤◌, [], None, Some, length, slice_set, true, IfOk, IfSome};
+ghost use Rattle.std.specs.Prelude.{◌≡◌, ◌+◌, ◌≤◌, [], None, Some, length, slice_set, IfOk};
 ghost use Rattle.lego_base.specs.Pieces.{laid_over, piece, zeros};
 ghost use Rattle.slab.specs.Slab.{ContainsKey, HasRoomFor, Updates, get, slab_len};
 ghost use Rattle.page_store.specs.Spots.{bytes_in, freed, is_page, laid};
@@ -62,6 +62,11 @@ impl PageFrames {
         frame
     }
 
+    /// The frame that a page may be in: whether it is there has to be looked at.
+    pub fn hint(&self, pid: Pid, vpn: Vpn) -> usize {
+        self.hints.frame(pid, vpn)
+    }
+
     // Frees a frame.
     fn free(&mut self, frame: usize)
         ensures slots { self.new.slots ≡ slice_set self.old.slots frame None }
@@ -79,14 +84,13 @@ impl PageFrames {
     }
 }
 
-/// The frame that a hint names for a page, where it has the page.
-pub fn hinted(frames: &PageFrames, pid: Pid, vpn: Vpn) -> Option<usize>
-    ensures { IfSome result (λ frame. is_page pid.0 vpn.0 (get frames.now frame) ≡ true) }
+/// Whether a frame has a page.
+pub fn has_page(frames: &PageFrames, frame: usize, pid: Pid, vpn: Vpn) -> bool
+    ensures { result ≡ is_page pid.0 vpn.0 (get frames.now frame) }
 {
-    let frame = frames.hints.frame(pid, vpn);
     match frames.slab.get(frame) {
-        Some(page) if page.pid.0 == pid.0 && page.vpn.0 == vpn.0 => Some(frame),
-        _ => None,
+        Some(page) => page.pid.0 == pid.0 && page.vpn.0 == vpn.0,
+        None => false,
     }
 }
 

@@ -242,10 +242,11 @@ fn frame_of(spots: &[Spot], frames: &PageFrames, pid: Pid, vpn: Vpn) -> Option<u
     requires { IsTied spots.now frames.now.slots }
     ensures { result ≡ frame_in (find spot_key (key_at pid.0 vpn.0) spots.now) }
 {
-    match frames::hinted(frames, pid, vpn) {
-        Some(frame) => Some(frame),
-        None => searched(spots, pid, vpn),
+    let hint = frames.hint(pid, vpn);
+    if frames::has_page(frames, hint, pid, vpn) {
+        return Some(hint);
     }
+    searched(spots, pid, vpn)
 }
 
 // The frame of a page by a search.
