@@ -2,15 +2,14 @@
 use Rattle.std.proofs.Common.{◌≡◌, ◌-◌, ◌<◌, ◌≤◌, ◌&&◌, [], ◌∷◌, ◌∙◌, ℕ, Bool, List, None, Option, Some, ap, arith, cond, eqb, false, is_some, length, max, refl, subst, suc, sym, take, true, zero}
 use Rattle.std.specs.List.{AllByRecursion, IsDistinct}
 use Rattle.std.specs.Map.{keys_of, lookup, lookup_entry, remove_entry}
-use Rattle.std.specs.Prelude.{map}
 use Rattle.std.specs.Option.{option_map_or}
 use Rattle.std.proofs.lemmas.Bool.Decides.{nat_tests}
-use Rattle.std.proofs.lemmas.Bool.{eq-eqb, eqb-true}
+use Rattle.std.proofs.lemmas.Bool.{eq-eqb}
 use Rattle.std.proofs.lemmas.List.{take-map, take_all}
 use Rattle.lru.specs.LruCache.{LruCache, promoted, put_entries}
 use Rattle.lego_msg.specs.State.{Block}
-use Rattle.lego_msg.specs.Table.{block_in, is_block, without_block, without_blocks}
-use Rattle.block_cache.specs.Cache.{block_of, blocks_of, first_where, touched, with_first}
+use Rattle.lego_msg.specs.Table.{block_in, without_block, without_blocks}
+use Rattle.block_cache.specs.Cache.{block_of, blocks_of, touched, with_first}
 
 abbrev pub same : (ℕ × ℕ) → (ℕ × ℕ) → Bool
 same a b = eqb a.0 b.0 && eqb a.1 b.1

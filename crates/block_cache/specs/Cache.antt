@@ -1,5 +1,5 @@
 -- What contracts see of a block cache: its room and its blocks, newest first, as lego_msg's memory has them.
-use Rattle.std.specs.Prelude.{[], ◌∷◌, ℕ, List, None, Option, Some, map, take}
+use Rattle.std.specs.Prelude.{◌∷◌, ℕ, List, None, Option, Some, map, take}
 use Rattle.lego_msg.specs.State.{Block}
 use Rattle.lego_msg.specs.Table.{block_in, without_block, without_blocks}
 

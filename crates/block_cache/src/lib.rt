@@ -7,3 +7,6 @@
 mod blocks;
 
 pub use blocks::Blocks;
+
+#[cfg(test)]
+mod tests;

@@ -21,7 +21,7 @@ walk_owns : (n : Now) (parts : List Part) → (walked n parts).owned ≡ n.owned
 walk_owns n [] = refl
 walk_owns n (a ∷ parts) = walk_owns (part_passed n a) parts ∙ pasts_own a.pid (part_past n a) n
 
-effect_owns : (n : Now) (e : Effect) → (beside n e).owned ≡ placed_all (placings_of n e) n.owned
+pub effect_owns : (n : Now) (e : Effect) → (beside n e).owned ≡ placed_all (placings_of n e) n.owned
 effect_owns n (Reads kind pid address bytes) = walk_owns n (line_parts (shown_kind kind) pid address bytes)
 effect_owns n (Writes kind pid address bytes) = walk_owns n (write_parts kind pid address bytes)
 effect_owns n (Refused kind pid address size) = walk_owns n (refused_parts kind pid address size (n.held.space pid))

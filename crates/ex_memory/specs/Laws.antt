@@ -1,8 +1,13 @@
 -- What a reader may ask of the script.
-use Rattle.std.specs.Prelude.{◌≡◌, ◌<◌, ℕ, List, [], ◌∷◌, ◌++◌, length}
+use Rattle.std.specs.Prelude.{◌≡◌, ◌==◌, ◌<◌, ◌≤◌, ◌+◌, ◌*◌, ◌/◌, ◌||◌, ℕ, Bool, false, true, List, [], ◌∷◌, ◌++◌, Some, is_some, length}
+use Rattle.lego_base.specs.declared.perms.Perms.{Perms}
+use Rattle.lego_base.specs.declared.records.Area.{Area}
+use Rattle.lego_base.specs.declared.shape.Shape.{Shape}
+use Rattle.lego_base.specs.declared.sizes.TheConstants.{PAGES_END}
 use Rattle.lego_base.specs.Files.{file_bytes, with_file_bytes}
 use Rattle.lego_base.specs.Pieces.{written_at}
-use Rattle.lego_base.specs.Space.{Space}
+use Rattle.lego_base.specs.Space.{Space, perms_of}
+use Rattle.area_list.specs.Runs.{IsCanonical, joined}
 use Rattle.lego_msg.specs.Plain.{Plain, effect, with_files}
 use Rattle.placement.specs.Owners.{Placing, Inherits, Drops as Ends, placed_all}
 use Rattle.lego_msg.specs.Laws.{shows}
@@ -11,9 +16,9 @@ use Rattle.linux_model.specs.Effects.{Effect, Kind, Store, CopyOut, Writes, Maps
 use Rattle.linux_model.specs.State.{Kernel}
 use Rattle.linux_model.specs.Held.{held_in, held_after}
 use Rattle.ex_memory.specs.Cuts.{BLOCK, Chunk, chunks}
-use Rattle.ex_memory.specs.Now.{Now, pid_no}
+use Rattle.ex_memory.specs.Now.{Now, at_start, pid_no, page_owner, space_of}
 use Rattle.ex_memory.specs.Touches.{write_parts, refused_parts, walked}
-use Rattle.ex_memory.specs.Regions.{placings}
+use Rattle.ex_memory.specs.Regions.{part_in, placings}
 use Rattle.ex_memory.specs.Script.{script, passed, all_passed, writes_block}
 use Rattle.ex_memory.specs.Seen.{undropped, all_seen}
 
@@ -69,3 +74,37 @@ all_placings n (e ∷ es) = placings_of n e ++ all_placings (passed n e) es
 -- mapping, a fork and the end of a space changes them.
 abbrev pub OwnersGoByTurns : Type 0
 OwnersGoByTurns = (n : Now) (es : List Effect) → (all_passed n es).owned ≡ placed_all (all_placings n es) n.owned
+
+-- ---- areas
+
+-- what the owners of regions answer, one after the other
+abbrev pub answered : List ℕ → List Area → List Area
+answered [] areas = []
+answered (region ∷ regions) areas = part_in region areas ++ answered regions areas
+
+abbrev pub has_number : ℕ → List ℕ → Bool
+has_number n [] = false
+has_number n (m ∷ numbers) = m == n || has_number n numbers
+
+-- regions of user addresses, starting at one or above, that rise
+abbrev pub RegionsRise : ℕ → List ℕ → Type 0
+RegionsRise from_ [] = Unit {0}
+RegionsRise from_ (region ∷ regions) = (from_ ≤ region) × ((region + 1) * 512 ≤ PAGES_END) × RegionsRise (region + 1) regions
+
+-- each mapped page lies in one of the regions
+abbrev pub HoldsAll : List ℕ → List Area → Type 0
+HoldsAll regions areas = (page : ℕ) (perms : Perms) → perms_of areas page ≡ Some perms → has_number (page / 512) regions ≡ true
+
+-- Where all regions with a mapped page are asked, in rising order, their answers make the areas of the process.
+abbrev pub AskedAreasAreAll : Type 0
+AskedAreasAreAll = (regions : List ℕ) (areas : List Area) → IsCanonical areas → RegionsRise 0 regions → HoldsAll regions areas → joined [] (answered regions areas) ≡ areas
+
+-- ---- every mapped page has an owner
+
+-- After whatever effects from the start, the region of each page that a process has mapped has an owner. So a touch of a
+-- mapped page names whom to read from, and a fill whom to write to.
+abbrev pub MappedIsOwned : Type 0
+MappedIsOwned =
+    (shape : Shape) (es : List Effect) (pid page : ℕ)
+    → is_some (perms_of (space_of (all_passed (at_start shape) es) pid).areas page) ≡ true
+    → is_some (page_owner (all_passed (at_start shape) es) pid page) ≡ true

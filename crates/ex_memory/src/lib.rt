@@ -6,7 +6,7 @@
 //! contracts.
 #![tactic(auto)]
 
-ghost use Rattle.ex_memory.specs.Laws.{BlocksMakeTheFile, OwnersGoByTurns, PartsMakeTheWhole, ScriptGoesWithTheKernel, ScriptShowsTheFlatRun, ScriptsJoin};
+ghost use Rattle.ex_memory.specs.Laws.{AskedAreasAreAll, BlocksMakeTheFile, MappedIsOwned, OwnersGoByTurns, PartsMakeTheWhole, ScriptGoesWithTheKernel, ScriptShowsTheFlatRun, ScriptsJoin};
 
 /// The script of effects and then of others is the one and then the other.
 pub fn scripts_join()
@@ -37,4 +37,14 @@ pub fn blocks_make_the_file()
 /// Owners are those of the rule of placement, by the count of assignments over the whole run.
 pub fn owners_go_by_turns()
     ensures { OwnersGoByTurns }
+{}
+
+/// Where all regions with a mapped page are asked, their answers make the areas of the process.
+pub fn asked_areas_are_all()
+    ensures { AskedAreasAreAll }
+{}
+
+/// The region of each mapped page has an owner, at every moment of every run.
+pub fn what_is_mapped_is_owned()
+    ensures { MappedIsOwned }
 {}

@@ -52,7 +52,8 @@ CopyFits owners parent child owner (r ∷ regions) = (owner_of owners parent r.0
 abbrev pub FileFits : Plain → FileNo → Type 0
 FileFits f file = is_file f.files.files file.0 ≡ true
 
--- What an operation asks of the owners of regions, those included that come with it, and of the plain map before it.
+-- What an operation asks of the owners of regions, those included that come with it, and of the plain map before it. The
+-- messages of a healing are nobody's to call for.
 abbrev pub OpFits : List HomeEntry → Plain → Operation → Type 0
 OpFits owners f (Reads pid line owner) = owner_of owners pid.0 (line.0 / 32768) ≡ Some owner
 OpFits owners f (Writes origin patch owner) = WriteFits owners f patch owner
@@ -65,6 +66,7 @@ OpFits owners f (ReadsFile file block off len) = FileFits f file × IsInBlock bl
 OpFits owners f (WritesFile file block off bytes) = FileFits f file × IsInBlock block off (length bytes)
 OpFits owners f (CutsFile file size) = FileFits f file × (size ≤ 16777216)
 OpFits owners f (AsksSize file) = FileFits f file
+OpFits owners f (Heals to what) = ⊥
 OpFits owners f other = Unit {0}
 
 -- LOGS: before pages go or are copied no log has a patch of them. The drains before such an operation see to it.
@@ -83,10 +85,9 @@ asks_clear other pid vpn = false
 abbrev pub IsClear : Operation → List Patch → Type 0
 IsClear operation log = AllByRecursion (λ (p : Patch). asks_clear operation p.pid.0 p.vpn.0 ≡ false) log
 
--- A drain is of a memory that is there; the messages of a healing are nobody's to call for.
+-- A drain is of a memory that is there.
 abbrev pub IsThere : ℕ → Operation → Type 0
 IsThere n (Drains m) = m.0 < n
-IsThere n (Heals to what) = ⊥
 IsThere n other = Unit {0}
 
 -- An operation is granted where the table of owners becomes `owners` with it: only regions without an owner get one.

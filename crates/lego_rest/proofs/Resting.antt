@@ -106,6 +106,7 @@ module _ (shape : Shape) (due : List Mark) where
       mapped = λ pid vpn e. absurd (never false refl e);
       whole = λ pid vpn bytes e. absurd (none_some bytes e);
       lists = λ pid region. tt;
+      numbers = λ file is. cc is;
     };
     forms = λ m s at.
         let there = empty_at shape 0 shape.frames m s at in

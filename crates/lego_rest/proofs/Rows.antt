@@ -170,6 +170,13 @@ block_put = record { from = memory 0; to = Storage; op = record { 0 = 2 }; body 
 cached_while_changed : (files : Files) → BlockFits 2 0 files (block_put ∷ []) cached → ⊥
 cached_while_changed files fits = let still : true ≡ false = fits.still in cc still
 
+-- a file numbered like the next one that is made would be taken for that one's blocks
+abbrev next_file_there : Files
+next_file_there = record (no_files 16) { files = record { file = 0; bytes = [] } ∷ [] }
+
+next_file_is_new : PlainFits 2 [] (no_plain next_file_there) → ⊥
+next_file_is_new fits = let below : 0 < 0 = fits.numbers 0 refl in omega (arith, below)
+
 abbrev block_elsewhere : Message
 block_elsewhere = record { from = Storage; to = memory 1; op = record { 0 = 3 }; body = body.BlockIs file0 0 0 2 Manager (zeros 4096) }
 

@@ -57,6 +57,8 @@ pub record PlainFits (n : ℕ) (owners : List HomeEntry) (f : Plain) : Type 0 wh
   pub mapped : (pid vpn : ℕ) → touched f pid vpn ≡ true → IsMapped f pid vpn
   pub whole : (pid vpn : ℕ) (bytes : List ℕ) → f.page pid vpn ≡ Some bytes → length bytes ≡ 4096
   pub lists : (pid region : ℕ) → IsRegionList region (f.areas pid region)
+  -- a file's number is below that of the next one
+  pub numbers : (file : ℕ) → is_file f.files.files file ≡ true → file < f.files.next
 
 -- A MEMORY BY ITSELF: its lists are in order and in form, and within its limits
 

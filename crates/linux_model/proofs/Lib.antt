@@ -5,4 +5,5 @@ pub mod Looking
 pub mod Loading
 pub mod Booting
 pub mod Holding
+pub mod fits
 pub mod rows

@@ -10,7 +10,8 @@ use Rattle.linux_model.specs.Paths.{text_at}
 use Rattle.linux_model.specs.ProcessCalls.{list_at}
 use Rattle.linux_model.specs.Loading.{loads_program, start_space}
 use Rattle.linux_model.specs.Boot.{boot_of, file_effects, booted_process, streams}
-use Rattle.linux_model.specs.Held.{held_in, held_after_all}
+use Rattle.linux_model.specs.Held.{Held, held_in, held_after, held_after_all, is_apart}
+use Rattle.linux_model.specs.Fits.{Fits, AllAllowed}
 use Rattle.linux_model.specs.Turns.{Schedule, flat, flat_effects, is_over}
 
 -- the run is what its effects, one after the other, make of the kernel that was booted
@@ -59,3 +60,21 @@ pub record LookingIsStill : Type 0 where
 -- What effects make of spaces and files depends on spaces and files alone.
 abbrev pub HeldGoesAlone : Type 0
 HeldGoesAlone = (es : List Effect) (k : Kernel) → held_in (applies es k) ≡ held_after_all es (held_in k)
+
+-- What is the manager's alone changes nothing of them.
+abbrev pub ApartStays : Type 0
+ApartStays = (e : Effect) (h : Held) → is_apart e ≡ true → held_after e h ≡ h
+
+-- ---- what holds of every kernel that a run reaches
+
+-- An effect that is allowed keeps what fits.
+abbrev pub AllowedKeepsWhatFits : Type 0
+AllowedKeepsWhatFits = (es : List Effect) (k : Kernel) → AllAllowed es k → Fits k → Fits (applies es k)
+
+-- Pids rise and are at most the last one, each descriptor names a description that is there, each description's file or pipe
+-- is there, a process has 64 descriptors and a zombie none, each name's file is there, and numbers of files are below the
+-- next: after every turn of every run.
+abbrev pub EveryKernelFits : Type 0
+EveryKernelFits =
+    (schedule : Schedule) (program : Program) (args env : List (List ℕ)) (files : List FileOut) (input : List ℕ) (n : ℕ)
+    → Fits (flat schedule (boot_of program args env files input) n)

@@ -15,4 +15,5 @@ pub mod Calls
 pub mod Turns
 pub mod Boot
 pub mod Held
+pub mod Fits
 pub mod Laws

@@ -8,7 +8,7 @@
 //! turn 0. The functions below have laws as their contracts that a reader may ask for.
 #![tactic(auto)]
 
-ghost use Rattle.linux_model.specs.Laws.{BootingStartsTheFirst, HeldGoesAlone, LoadingBuildsTheSpace, LookingIsStill, OutputOnlyGrows, RunIsItsEffects, TheEndIsTheEnd};
+ghost use Rattle.linux_model.specs.Laws.{AllowedKeepsWhatFits, ApartStays, BootingStartsTheFirst, EveryKernelFits, HeldGoesAlone, LoadingBuildsTheSpace, LookingIsStill, OutputOnlyGrows, RunIsItsEffects, TheEndIsTheEnd};
 
 /// The run is what its list of effects makes of the kernel that was booted.
 pub fn run_is_its_effects()
@@ -45,4 +45,19 @@ pub fn booting_starts_the_first()
 /// What effects make of spaces and files, which the machine under the kernel holds, depends on these alone.
 pub fn what_is_held_goes_alone()
     ensures { HeldGoesAlone }
+{}
+
+/// Effects on processes, descriptors, pipes and input change nothing of them.
+pub fn what_is_apart_stays()
+    ensures { ApartStays }
+{}
+
+/// Effects that ask for no more than what is there keep what fits.
+pub fn allowed_effects_keep_what_fits()
+    ensures { AllowedKeepsWhatFits }
+{}
+
+/// Pids rise, what descriptors and descriptions refer to is there, and zombies have nothing open: after every turn.
+pub fn every_kernel_fits()
+    ensures { EveryKernelFits }
 {}

@@ -1,8 +1,7 @@
 -- A row that ends in an answer.
-use Rattle.std.proofs.Common.{◌≡◌, ◌++◌, [], ◌∷◌, ◌∙◌, Bool, Err, List, Ok, Result, ap, cond, false, leb, ltb, refl, sym, true, length, ℕ}
+use Rattle.std.proofs.Common.{◌≡◌, ◌++◌, [], ◌∷◌, ◌∙◌, Err, List, Ok, Result, ap, cond, false, ltb, sym, true, length}
 use Rattle.std.specs.Prelude.{OnOk}
 use Rattle.std.proofs.lemmas.Bool.{le-leb, lt-leb, ltb-false, ltb-true}
-use Rattle.lego_base.specs.declared.records.PageImage.{PageImage}
 use Rattle.lego_msg.specs.Places.{memory}
 use Rattle.lego_msg.specs.State.{Mem}
 use Rattle.lego_msg.specs.Table.{answers, reply, within_frames}

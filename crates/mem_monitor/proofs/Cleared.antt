@@ -1,12 +1,12 @@
 -- Pages of regions that go before others are put: the order of both doesn't matter.
-use Rattle.std.proofs.Common.{◌≡◌, ◌+◌, ◌/◌, ◌<◌, ◌≤◌, ◌&&◌, [], ◌∷◌, ◌∙◌, ℕ, Bool, List, ap, arith, cond, false, length, not, refl, subst, suc, sym, true}
+use Rattle.std.proofs.Common.{◌≡◌, [], ◌∷◌, ◌∙◌, ℕ, Bool, List, ap, arith, cond, false, length, not, refl, subst, sym, true}
 use Rattle.std.specs.List.{AllByRecursion}
 use Rattle.keyed_list.proofs.Listed.{Rises-put, Rises-without, above_rest}
 use Rattle.keyed_list.proofs.Order.{same_is}
 use Rattle.lego_base.specs.Keys.{IsAbove, Key, Rises, is_below, is_page_of, put, put_all, same_key, those, without}
 use Rattle.lego_base.specs.declared.ids.RegionNo.{RegionNo}
 use Rattle.lego_base.specs.declared.records.PageImage.{PageImage}
-use Rattle.lego_msg.specs.Maps.{page_key, pages_of}
+use Rattle.lego_msg.specs.Maps.{page_key}
 use Rattle.mem_monitor.specs.Counted.{cleared, counts}
 
 module _ {X : Type 0} (key : X → Key) where

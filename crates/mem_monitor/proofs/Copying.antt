@@ -1,15 +1,15 @@
 -- What a copying does to the pages: how many there are then, and that the child's may go before.
-use Rattle.std.proofs.Common.{◌≡◌, ◌+◌, ◌-◌, ◌/◌, ◌<◌, ◌≤◌, ◌&&◌, [], ◌∷◌, ◌∙◌, ℕ, Bool, List, ap, arith, cond, eqb, false, length, refl, subst, sym}
+use Rattle.std.proofs.Common.{◌≡◌, ◌+◌, ◌<◌, ◌≤◌, [], ◌∷◌, ◌∙◌, ℕ, List, ap, arith, eqb, false, length, refl, subst, sym}
 use Rattle.std.specs.List.{AllByRecursion}
 use Rattle.std.specs.Prelude.{map}
 use Rattle.keyed_list.proofs.Listed.{Rises-without}
-use Rattle.lego_base.specs.Keys.{Key, Rises, is_page_of, put_all, without}
+use Rattle.lego_base.specs.Keys.{Rises, is_page_of, put_all, without}
 use Rattle.lego_base.specs.declared.ids.Pid.{Pid}
 use Rattle.lego_base.specs.declared.ids.RegionNo.{RegionNo}
 use Rattle.lego_base.specs.declared.records.PageImage.{PageImage}
 use Rattle.lego_msg.specs.Form.{ArePages, RegionsRise}
 use Rattle.lego_msg.specs.Maps.{copied_pages, for_child, page_key, pages_of}
-use Rattle.mem_monitor.proofs.Cleared.{AreOutside, Rises-put_all, all_stay, counts_cleared, none_cleared, none_left, put_all-cleared}
+use Rattle.mem_monitor.proofs.Cleared.{AreOutside, Rises-put_all, all_stay, none_cleared, none_left, put_all-cleared}
 use Rattle.mem_monitor.specs.Counted.{cleared, counts}
 use Rattle.page_store.proofs.Copied.{all_out, are_copies, differ, length-copied, other_page, other_region, those_without}
 use Rattle.page_store.proofs.Replaced.{parts_of}

@@ -13,6 +13,7 @@ impl Memory {
     ghost use Rattle.std.specs.Prelude.{◌++◌, [], ◌∷◌};
     ghost use Rattle.lego_msg.specs.Places.{memory};
     ghost use Rattle.lego_msg.specs.declared.body.Body.TheVariants.{Done};
+    ghost use Rattle.lego_msg.specs.declared.message.Message.{Message};
     ghost use Rattle.lego_msg.specs.declared.place.Place.{Place};
     ghost use Rattle.lego_msg.specs.declared.place.Place.TheVariants.{Storage};
     ghost use Rattle.lego_msg.specs.Table.{block_is_row, file_cut_row, file_read_row, file_write_row};
@@ -58,7 +59,9 @@ impl Memory {
         bytes: Bytes,
         out: &mut Outbox,
     ) -> Result<(), NoMemory>
-        ensures { (from : Place) → OnOk result (Row self.old self.new out.old out.new (block_is_row self.old (record { from = from; to = from; op = asker.op; body = Done }) file.0 block off len asker.place bytes)) }
+        ensures { (from : Place) → let m : Message = record { from = from; to = from; op = asker.op; body = Done } in
+            let row = block_is_row self.old m file.0 block off len asker.place bytes in
+            OnOk result (Row self.old self.new out.old out.new row) }
     {
         let asked = piece_of(alloc, bytes.as_slice(), off, len)?;
         self.blocks.fill(file, block, bytes)?;

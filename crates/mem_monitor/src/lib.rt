@@ -16,3 +16,6 @@ mod memory;
 mod page_rows;
 
 pub use memory::Memory;
+
+#[cfg(test)]
+mod tests;

@@ -44,7 +44,9 @@ impl Memory {
     }
 
     fn line_body(&self, alloc: Global, pid: Pid, line: LineNo) -> Result<Body, NoMemory>
-        ensures { IfOk result (λ body. body ≡ line_answer (perms_of (areas_at self.now.main.areas pid.0 (line.0 / 32768)) (line.0 / 64)) (page_at self.now.pages pid.0 (line.0 / 64)) line.0) }
+        ensures { let areas = areas_at self.now.main.areas pid.0 (line.0 / 32768) in
+            let page = page_at self.now.pages pid.0 (line.0 / 64) in
+            IfOk result (λ body. body ≡ line_answer (perms_of areas (line.0 / 64)) page line.0) }
     {
         let areas = self.main.areas(pid, RegionNo(line.0 / REGION_LINES));
         match perms_at(areas, line.0 / PAGE_LINES) {
@@ -232,10 +234,11 @@ fn perms_at(areas: &[Area], page: u64) -> Option<Perms>
 fn line_of(alloc: Global, pages: &PageStore, pid: Pid, line: LineNo) -> Result<Bytes, NoMemory>
     ensures { IfOk result (λ bytes. bytes ≡ take 64 (drop (line.0 % 64 * 64) (page_at pages.now.pages pid.0 (line.0 / 64)))) }
 {
-    let off = (line.0 % PAGE_LINES * LINE_BYTES) as u16;
-    let mut bytes = [0; LINE_BYTES as usize];
-    pages.read(pid, Vpn(line.0 / PAGE_LINES), off, &mut bytes);
-    Bytes::from_slice(alloc, &bytes)
+    let start = (line.0 % PAGE_LINES * LINE_BYTES) as usize;
+    match pages.page(pid, Vpn(line.0 / PAGE_LINES)) {
+        Some(bytes) => Bytes::from_slice(alloc, &bytes[start..start + LINE_BYTES as usize]),
+        None => Bytes::from_slice(alloc, &[0; LINE_BYTES as usize]),
+    }
 }
 
 // The child's areas of regions become the parent's.

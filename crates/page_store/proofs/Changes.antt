@@ -1,10 +1,9 @@
 -- What the list of pages becomes where a frame, a place or both change.
-use Rattle.std.proofs.Common.{◌≡◌, ◌<◌, ◌≤◌, ◌&&◌, [], ◌∷◌, ◌∙◌, ℕ, Bool, List, None, Option, Some, ap, arith, cond, false, get_or, length, not, refl, set, subst, suc, sym, true}
-use Rattle.std.specs.Prelude.{map}
-use Rattle.lego_base.specs.Keys.{Key, Rises, find, is_below, key_at, put, same_key, those, without}
+use Rattle.std.proofs.Common.{◌≡◌, [], ◌∷◌, ◌∙◌, Bool, List, None, Option, Some, ap, cond, false, get_or, not, refl, subst, sym, true}
+use Rattle.lego_base.specs.Keys.{Key, Rises, find, is_below, put, same_key, without}
 use Rattle.lego_base.specs.declared.records.PageImage.{PageImage}
-use Rattle.keyed_list.proofs.Found.{above_differs, none_above, not_above, other_turned, same_not_below, same_turned}
-use Rattle.keyed_list.proofs.Order.{above, below-trans, same_is}
+use Rattle.keyed_list.proofs.Found.{above_differs, none_above, other_turned, same_not_below, same_turned}
+use Rattle.keyed_list.proofs.Order.{below-trans, same_is}
 use Rattle.lego_msg.specs.Maps.{page_key}
 use Rattle.page_store.specs.Spots.{AreHeld, IsHeld, IsPageOf, bytes_in, image, images, spot_key}
 use Rattle.page_store.specs.declared.frames.Page.{Page}

@@ -1,5 +1,5 @@
 -- Pages of a region that are copied for a child.
-use Rattle.std.proofs.Common.{◌≡◌, ◌+◌, ◌/◌, ◌<◌, ◌≤◌, ◌&&◌, [], ◌∷◌, ◌∙◌, ℕ, Bool, List, None, Option, Some, ap, arith, cond, drop, eqb, false, get_or, length, not, refl, subst, suc, sym, true, zero}
+use Rattle.std.proofs.Common.{◌≡◌, ◌+◌, ◌/◌, ◌<◌, ◌&&◌, [], ◌∷◌, ◌∙◌, ℕ, Bool, List, None, Option, Some, ap, arith, cond, drop, eqb, false, get_or, length, not, refl, subst, suc, sym, true, zero}
 use Rattle.std.specs.List.{AllByRecursion}
 use Rattle.std.specs.Option.{option_map}
 use Rattle.std.specs.Prelude.{map}
@@ -8,11 +8,11 @@ use Rattle.std.proofs.lemmas.List.{drop_more, length-map}
 use Rattle.keyed_list.proofs.Found.{other_turned}
 use Rattle.keyed_list.proofs.Listed.{find-put, find-without}
 use Rattle.keyed_list.proofs.Order.{same_is}
-use Rattle.lego_base.specs.Keys.{Key, Rises, find, is_below, is_page_of, key_at, put, put_all, same_key, those, without}
+use Rattle.lego_base.specs.Keys.{Key, find, is_below, is_page_of, key_at, put, put_all, same_key, those, without}
 use Rattle.lego_base.specs.declared.ids.Pid.{Pid}
 use Rattle.lego_base.specs.declared.ids.RegionNo.{RegionNo}
 use Rattle.lego_base.specs.declared.records.PageImage.{PageImage}
-use Rattle.lego_msg.specs.Form.{ArePages, EachOnce, IsNone}
+use Rattle.lego_msg.specs.Form.{ArePages, IsNone}
 use Rattle.lego_msg.specs.Maps.{for_child, page_key, pages_of, with_pages}
 use Rattle.page_store.proofs.Freed.{held_those}
 use Rattle.page_store.proofs.Places.{find-images, length-images, those-images}

@@ -1,14 +1,14 @@
 -- The pages of a region, as a store has them, are in form.
-use Rattle.std.proofs.Common.{◌≡◌, ◌/◌, ◌&&◌, [], ◌∷◌, ◌∙◌, ℕ, Bool, List, None, Option, Some, ap, cond, eqb, false, get_or, length, refl, sym, true}
+use Rattle.std.proofs.Common.{◌≡◌, ◌/◌, ◌&&◌, [], ◌∷◌, ℕ, Bool, List, None, Option, Some, cond, eqb, false, get_or, length, refl, true}
 use Rattle.std.specs.List.{AllByRecursion}
 use Rattle.std.proofs.lemmas.Bool.{eqb-true}
 use Rattle.keyed_list.proofs.Found.{above_differs}
 use Rattle.keyed_list.proofs.Order.{below-trans}
-use Rattle.lego_base.specs.Keys.{IsAbove, Key, Rises, is_below, is_page_of, same_key, those}
+use Rattle.lego_base.specs.Keys.{IsAbove, Key, Rises, is_below, is_page_of, those}
 use Rattle.lego_base.specs.declared.records.PageImage.{PageImage}
 use Rattle.lego_msg.specs.Form.{ArePages, EachOnce, IsNone}
 use Rattle.lego_msg.specs.Maps.{page_key, pages_of}
-use Rattle.page_store.specs.Spots.{AreHeld, IsHeld, IsPageOf, bytes_in, image, images, spot_key}
+use Rattle.page_store.specs.Spots.{AreHeld, IsPageOf, bytes_in, image, images, spot_key}
 use Rattle.page_store.specs.declared.frames.Page.{Page}
 use Rattle.page_store.specs.declared.spot.Spot.{Spot}
 

@@ -1,7 +1,6 @@
 -- Frames that are freed, and pages that go.
-use Rattle.std.proofs.Common.{◌≡◌, ◌≢◌, ◌⊎◌, ◌+◌, ◌-◌, ◌*◌, ◌/◌, ◌<◌, ◌≤◌, ◌^◌, ◌&&◌, ◌++◌, [], ◌∷◌, ◌∙◌, ℕ, Bool, List, None, Option, Some, ap, arith, cond, count_by, drop, eqb, false, get_or, is_some, length, not, refl, set, subst, suc, sym, take, true}
+use Rattle.std.proofs.Common.{◌≡◌, ◌+◌, ◌*◌, ◌<◌, ◌^◌, [], ◌∷◌, ◌∙◌, ℕ, Bool, List, None, Option, Some, ap, arith, cond, count_by, false, get_or, is_some, length, not, refl, set, subst, suc, sym, true}
 use Rattle.std.specs.List.{AllByRecursion}
-use Rattle.std.specs.Prelude.{map, sum_by}
 use Rattle.std.proofs.lemmas.Bool.Decides.{nat_tests}
 use Rattle.std.proofs.lemmas.List.{get_or-set_other}
 use Rattle.std.proofs.lemmas.List.Sums.{sum_by-set}
@@ -9,7 +8,7 @@ use Rattle.keyed_list.proofs.Found.{below_differs}
 use Rattle.keyed_list.proofs.Listed.{Rises-without}
 use Rattle.keyed_list.proofs.Order.{below-trans, same_is}
 use Rattle.keyed_list.specs.Below.{is_within}
-use Rattle.lego_base.specs.Keys.{IsAbove, Key, Rises, is_below, is_page_from, is_page_of, key_at, same_key, those, without}
+use Rattle.lego_base.specs.Keys.{IsAbove, Key, Rises, is_page_from, is_page_of, key_at, same_key, those, without}
 use Rattle.lego_base.specs.declared.records.PageImage.{PageImage}
 use Rattle.lego_msg.specs.Maps.{page_key}
 use Rattle.page_store.proofs.Changes.{held-without, images-without}

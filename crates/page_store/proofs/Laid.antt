@@ -1,10 +1,10 @@
 -- A patch laid over a page that is present, and a page that is added.
-use Rattle.std.proofs.Common.{◌≡◌, ◌≢◌, ◌⊎◌, ◌+◌, ◌-◌, ◌<◌, ◌≤◌, ◌++◌, [], ◌∷◌, ◌∙◌, ℕ, Bool, List, None, Option, Some, ap, arith, cond, count_by, drop, false, get_or, inl, inr, is_some, length, refl, replicate, set, subst, suc, sym, take, true}
+use Rattle.std.proofs.Common.{◌≡◌, ◌≢◌, ◌+◌, ◌-◌, ◌<◌, ◌≤◌, ◌++◌, [], ◌∷◌, ◌∙◌, ℕ, Bool, List, None, Option, Some, ap, arith, cond, drop, false, get_or, inl, inr, length, refl, replicate, set, subst, suc, sym, take, true}
 use Rattle.std.specs.List.{AllByRecursion}
 use Rattle.std.specs.Option.{option_map}
 use Rattle.std.proofs.lemmas.Bool.{cases_lt}
 use Rattle.std.proofs.lemmas.List.{append-nil, drop-replicate, drop_all, get_or-set_other, get_or-set_same, get_or_past, length-append, length-drop, length-replicate, length-take, take-replicate}
-use Rattle.lego_base.specs.Keys.{Key, Rises, find, is_below, key_at, put, same_key}
+use Rattle.lego_base.specs.Keys.{Key, find, is_below, key_at, put, same_key}
 use Rattle.lego_base.specs.Pieces.{laid_over, zeros}
 use Rattle.lego_base.specs.declared.ids.Pid.{Pid}
 use Rattle.lego_base.specs.declared.ids.Vpn.{Vpn}
@@ -12,8 +12,8 @@ use Rattle.lego_base.specs.declared.records.PageImage.{PageImage}
 use Rattle.lego_base.specs.declared.records.Patch.{Patch}
 use Rattle.keyed_list.proofs.Order.{same_is}
 use Rattle.lego_msg.specs.Form.{IsWithinPage}
-use Rattle.lego_msg.specs.Maps.{bytes_or_zeros, image_bytes, page_at, page_key, patched}
-use Rattle.page_store.proofs.Changes.{Stays, held-put, held-written, held_stay, images-put, images-written, images_stay}
+use Rattle.lego_msg.specs.Maps.{bytes_or_zeros, image_bytes, page_at, page_in, page_key, patched}
+use Rattle.page_store.proofs.Changes.{held-put, held-written, held_stay, images-put, images-written, images_stay}
 use Rattle.page_store.proofs.Places.{find-images, frames_differ, held_some, length-images, length-put_new}
 use Rattle.page_store.specs.Spots.{AreHeld, IsHeld, IsPageOf, IsTied, bytes_in, image, images, laid, page_image, spot_key}
 use Rattle.page_store.specs.Store.{patch_of}
@@ -146,3 +146,14 @@ whole_over old bytes long all =
 
 pub whole_is : (frames : List (Option Page)) (spots : List Spot) (pid : Pid) (vpn : Vpn) (bytes : List ℕ) → AreHeld frames spots → length bytes ≡ 4096 → patched (patch_of pid vpn 0 bytes) (images frames spots) ≡ put page_key (page_image pid vpn bytes) (images frames spots)
 whole_is frames spots pid vpn bytes held all = ap (λ (b : List ℕ). put page_key (page_image pid vpn b) (images frames spots)) (whole_over (page_at (images frames spots) pid.0 vpn.0) bytes (length_page frames spots pid.0 vpn.0 held) all)
+
+-- the bytes of a page, where it is present
+pub page_in_frame : (frames : List (Option Page)) (spots : List Spot) (pid vpn : ℕ) (s : Spot) → find spot_key (key_at pid vpn) spots ≡ Some s → page_in (images frames spots) pid vpn ≡ Some (bytes_in (get_or frames s.frame None))
+page_in_frame frames spots pid vpn s found = ap image_bytes (find-images frames spots (key_at pid vpn) ∙ ap (option_map (image frames)) found)
+
+pub page_in_none : (frames : List (Option Page)) (spots : List Spot) (pid vpn : ℕ) → find spot_key (key_at pid vpn) spots ≡ None → page_in (images frames spots) pid vpn ≡ None
+page_in_none frames spots pid vpn absent = ap image_bytes (find-images frames spots (key_at pid vpn) ∙ ap (option_map (image frames)) absent)
+
+pub held_whole : (s : Spot) (o : Option Page) → IsPageOf s o → length (bytes_in o) ≡ 4096
+held_whole s None held = absurd held
+held_whole s (Some page) held = held.2

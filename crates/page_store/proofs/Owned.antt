@@ -1,13 +1,12 @@
 -- A frame with a page is that of the page's place.
-use Rattle.std.proofs.Common.{◌≡◌, ◌⊎◌, ◌+◌, ◌≤◌, ◌&&◌, [], ◌∷◌, ◌∙◌, ℕ, Bool, List, None, Option, Some, ap, arith, cond, count_by, eqb, false, get_or, inl, inr, is_some, length, refl, set, subst, sym, true}
+use Rattle.std.proofs.Common.{◌≡◌, ◌⊎◌, ◌+◌, ◌≤◌, ◌&&◌, [], ◌∷◌, ◌∙◌, ℕ, Bool, List, None, Option, Some, ap, arith, cond, count_by, eqb, false, get_or, inl, inr, is_some, refl, set, subst, sym, true}
 use Rattle.std.specs.List.{AllByRecursion}
 use Rattle.std.proofs.lemmas.Bool.{eq-eqb, eqb-true}
 use Rattle.std.proofs.lemmas.List.Sums.{sum_by-set}
 use Rattle.keyed_list.proofs.Found.{above_differs, none_above}
 use Rattle.keyed_list.proofs.Order.{same_is, same_self}
 use Rattle.lego_base.specs.Keys.{Key, Rises, find, is_below, key_at, same_key}
-use Rattle.lego_base.specs.declared.ids.Pid.{Pid}
-use Rattle.page_store.proofs.Freed.{Apart, all_apart, freed_count, freed_stays}
+use Rattle.page_store.proofs.Freed.{all_apart, freed_count, freed_stays}
 use Rattle.page_store.proofs.Laid.{within}
 use Rattle.page_store.specs.Spots.{AreHeld, IsHeld, IsPageOf, IsTied, frame_in, freed, is_page, spot_key}
 use Rattle.page_store.specs.declared.frames.Page.{Page}

@@ -1,14 +1,12 @@
 -- What a list of places and the list of the pages there have to do with each other.
-use Rattle.std.proofs.Common.{◌≡◌, ◌<◌, ◌≤◌, ◌&&◌, ◌++◌, [], ◌∷◌, ◌∙◌, ℕ, Bool, List, None, Option, Some, ap, arith, cond, count_by, eqb, false, get_or, is_some, length, not, refl, set, suc, sym, true}
-use Rattle.std.specs.Prelude.{map}
+use Rattle.std.proofs.Common.{◌≡◌, ◌&&◌, [], ◌∷◌, ◌∙◌, ℕ, Bool, List, None, Option, Some, ap, cond, false, get_or, length, refl, suc, sym, true}
 use Rattle.std.specs.Option.{option_map}
 use Rattle.std.proofs.lemmas.Bool.{eq-eqb}
-use Rattle.lego_base.specs.Keys.{Key, Rises, find, is_below, key_at, put, same_key, those, without}
+use Rattle.lego_base.specs.Keys.{Key, Rises, find, is_below, put, same_key, those}
 use Rattle.lego_base.specs.declared.records.PageImage.{PageImage}
-use Rattle.keyed_list.proofs.Found.{none_above, not_above, above_differs, same_not_below, same_turned, other_turned}
-use Rattle.keyed_list.proofs.Order.{above}
+use Rattle.keyed_list.proofs.Found.{none_above, above_differs, same_turned, other_turned}
 use Rattle.lego_msg.specs.Maps.{page_key}
-use Rattle.page_store.specs.Spots.{AreHeld, IsHeld, IsPageOf, bytes_in, image, images, spot_key}
+use Rattle.page_store.specs.Spots.{IsHeld, IsPageOf, image, images, spot_key}
 use Rattle.page_store.specs.declared.frames.Page.{Page}
 use Rattle.page_store.specs.declared.spot.Spot.{Spot}
 

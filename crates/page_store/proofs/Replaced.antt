@@ -1,10 +1,10 @@
 -- How many pages there are once those of a region are others.
-use Rattle.std.proofs.Common.{◌≡◌, ◌+◌, ◌-◌, ◌/◌, ◌<◌, ◌≤◌, ◌&&◌, [], ◌∷◌, ◌∙◌, ℕ, Bool, List, None, Option, Some, ap, arith, cond, false, length, ltb, not, refl, suc, sym, true}
+use Rattle.std.proofs.Common.{◌≡◌, ◌+◌, ◌/◌, ◌≤◌, ◌&&◌, [], ◌∷◌, ◌∙◌, ℕ, Bool, List, None, arith, cond, false, length, ltb, not, refl, suc, sym, true}
 use Rattle.std.specs.List.{AllByRecursion}
 use Rattle.std.proofs.lemmas.Bool.{eq-eqb, ltb-true}
 use Rattle.keyed_list.proofs.Listed.{find-put, find-without}
 use Rattle.keyed_list.proofs.Found.{other_turned}
-use Rattle.lego_base.specs.Keys.{Key, find, is_below, is_page_of, key_at, put, put_all, same_key, those, without}
+use Rattle.lego_base.specs.Keys.{Key, find, is_below, is_page_of, put, put_all, same_key, those, without}
 use Rattle.lego_base.specs.declared.records.PageImage.{PageImage}
 use Rattle.lego_msg.specs.Form.{ArePages, EachOnce, IsNone}
 use Rattle.lego_msg.specs.Maps.{page_key, pages_of, with_pages}

@@ -13,3 +13,6 @@ mod spot;
 mod store;
 
 pub use store::{Full, PageStore};
+
+#[cfg(test)]
+mod tests;

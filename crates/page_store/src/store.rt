@@ -1,10 +1,10 @@
 //! A map from pages to their bytes.
 
-ghost use Rattle.std.specs.Prelude.{◌≡◌, ℕ, ◌+◌, ◌-◌, ◌<◌, ◌≤◌, ◌^◌, ◌++◌, [], Bool, Some, None, drop, is_err, length, nat_lt, take, vec_capacity, OnOk, OnErr, IfOk};
+ghost use Rattle.std.specs.Prelude.{◌≡◌, ℕ, ◌+◌, ◌-◌, ◌<◌, ◌≤◌, ◌^◌, ◌++◌, [], Bool, Some, None, drop, is_err, length, nat_lt, take, vec_capacity, OnOk, OnErr, IfOk, IfSome, MatchOption};
 ghost use Rattle.std.specs.List.{AllByRecursion};
 ghost use Rattle.lego_base.specs.Pieces.{piece};
 ghost use Rattle.lego_base.specs.Keys.{Key, Rises, find, is_of, is_page_from, is_page_of, key_at, put, put_all, those, without};
-ghost use Rattle.lego_msg.specs.Maps.{page_at, page_key, pages_of, patched, with_pages};
+ghost use Rattle.lego_msg.specs.Maps.{page_at, page_in, page_key, pages_of, patched, with_pages};
 ghost use Rattle.lego_msg.specs.Form.{ArePages, IsWithinPage};
 ghost use Rattle.page_store.specs.Spots.{AreHeld, IsTied, SaysWithin, frame_in, images, page_image, spot_key};
 ghost use Rattle.page_store.specs.Store.{patch_of};
@@ -42,7 +42,10 @@ impl Model for PageStore {
 
     ghost view = { λ a. record { frames = a.most; pages = images a.frames.slots a.spots.items } };
 
-    ghost invariant = { λ a. IsTied a.spots.items a.frames.slots × (length a.spots.items ≤ a.most) × (a.most ≤ vec_capacity a.spots) × (a.most ≤ a.frames.capacity) };
+    ghost invariant = { λ a. IsTied a.spots.items a.frames.slots
+        × (length a.spots.items ≤ a.most)
+        × (a.most ≤ vec_capacity a.spots)
+        × (a.most ≤ a.frames.capacity) };
 }
 
 impl PageStore {
@@ -67,6 +70,15 @@ impl PageStore {
         ensures { buf.new ≡ piece (page_at self.now.pages pid.0 vpn.0) off (length buf.old) }
     {
         copy_out(self.spots.as_slice(), &self.frames, pid, vpn, off, buf);
+    }
+
+    /// The 4096 bytes of a page, where it is present.
+    pub fn page(&self, pid: Pid, vpn: Vpn) -> Option<&[u8]>
+        ensures bytes { let held = page_in self.now.pages pid.0 vpn.0 in
+            MatchOption result (held ≡ None) (λ bytes. held ≡ Some bytes.now) }
+        ensures length { IfSome result (λ bytes. length bytes.now ≡ 4096) }
+    {
+        bytes_of(self.spots.as_slice(), &self.frames, pid, vpn)
     }
 
     /// Writes the bytes of a patch into its page. `Full` where the page isn't present and all frames are taken; then
@@ -212,6 +224,19 @@ fn copy_out(spots: &[Spot], frames: &PageFrames, pid: Pid, vpn: Vpn, off: u16, b
     }
 }
 
+// The bytes of a page, where it is present.
+fn bytes_of<'a>(spots: &[Spot], frames: &'a PageFrames, pid: Pid, vpn: Vpn) -> Option<&'a [u8]>
+    requires { IsTied spots.now frames.now.slots }
+    ensures bytes { let held = page_in (images frames.now.slots spots.now) pid.0 vpn.0 in
+        MatchOption result (held ≡ None) (λ bytes. held ≡ Some bytes.now) }
+    ensures length { IfSome result (λ bytes. length bytes.now ≡ 4096) }
+{
+    match frame_of(spots, frames, pid, vpn) {
+        Some(frame) => Some(frames::bytes(frames, frame)),
+        None => None,
+    }
+}
+
 // The frame of a page: the one that a hint names, else by a search.
 fn frame_of(spots: &[Spot], frames: &PageFrames, pid: Pid, vpn: Vpn) -> Option<usize>
     requires { IsTied spots.now frames.now.slots }
@@ -249,8 +274,11 @@ fn lay(
     requires spots { most ≤ vec_capacity spots.old }
     requires frames { most ≤ frames.old.capacity }
     requires within { off + length bytes.now ≤ 4096 }
-    ensures ok { OnOk result (images frames.new.slots spots.new.items ≡ patched (patch_of pid vpn off bytes.now) (images frames.old.slots spots.old.items)) }
-    ensures full { is_err result ≡ nat_lt most (length (patched (patch_of pid vpn off bytes.now) (images frames.old.slots spots.old.items))) }
+    ensures ok { let before = images frames.old.slots spots.old.items in
+        let after = images frames.new.slots spots.new.items in
+        OnOk result (after ≡ patched (patch_of pid vpn off bytes.now) before) }
+    ensures full { let before = images frames.old.slots spots.old.items in
+        is_err result ≡ nat_lt most (length (patched (patch_of pid vpn off bytes.now) before)) }
     ensures err { OnErr result ((frames.new ≡ frames.old) × (spots.new ≡ spots.old)) }
     ensures tied { IsTied spots.new.items frames.new.slots }
     ensures few { length spots.new.items ≤ most }
@@ -302,7 +330,9 @@ pub(crate) fn add(spots: &mut Vec<Spot>, frames: &mut PageFrames, page: Page)
     requires fits { page.vpn.0 < 2 ^ 64 }
     requires spots { length spots.old.items < vec_capacity spots.old }
     requires frames { length spots.old.items < frames.old.capacity }
-    ensures pages { images frames.new.slots spots.new.items ≡ put page_key (record { pid = page.pid; vpn = page.vpn; bytes = page.bytes }) (images frames.old.slots spots.old.items) }
+    ensures pages { let before = images frames.old.slots spots.old.items in
+        let after = images frames.new.slots spots.new.items in
+        after ≡ put page_key (record { pid = page.pid; vpn = page.vpn; bytes = page.bytes }) before }
     ensures length { length spots.new.items ≡ length spots.old.items + 1 }
     ensures tied { IsTied spots.new.items frames.new.slots }
     ensures spots { vec_capacity spots.old ≤ vec_capacity spots.new }
@@ -331,8 +361,11 @@ fn put_whole(
     requires spots { most ≤ vec_capacity spots.old }
     requires frames { most ≤ frames.old.capacity }
     requires bytes { length bytes.now ≡ 4096 }
-    ensures ok { OnOk result (images frames.new.slots spots.new.items ≡ put page_key (page_image pid vpn bytes.now) (images frames.old.slots spots.old.items)) }
-    ensures full { is_err result ≡ nat_lt most (length (put page_key (page_image pid vpn bytes.now) (images frames.old.slots spots.old.items))) }
+    ensures ok { let before = images frames.old.slots spots.old.items in
+        let after = images frames.new.slots spots.new.items in
+        OnOk result (after ≡ put page_key (page_image pid vpn bytes.now) before) }
+    ensures full { let before = images frames.old.slots spots.old.items in
+        is_err result ≡ nat_lt most (length (put page_key (page_image pid vpn bytes.now) before)) }
     ensures err { OnErr result ((frames.new ≡ frames.old) × (spots.new ≡ spots.old)) }
     ensures tied { IsTied spots.new.items frames.new.slots }
     ensures few { length spots.new.items ≤ most }
@@ -417,7 +450,9 @@ fn copies(alloc: Global, spots: &[Spot], frames: &PageFrames) -> Result<Seq<Page
 fn drop_span(spots: &mut Vec<Spot>, frames: &mut PageFrames, pid: Pid, first: u64, last: u64)
     requires tied { IsTied spots.old.items frames.old.slots }
     requires order { first ≤ last }
-    ensures pages { (test : Key → Bool) → SaysWithin pid.0 first last test → images frames.new.slots spots.new.items ≡ without page_key test (images frames.old.slots spots.old.items) }
+    ensures pages { let before = images frames.old.slots spots.old.items in
+        let after = images frames.new.slots spots.new.items in
+        (test : Key → Bool) → SaysWithin pid.0 first last test → after ≡ without page_key test before }
     ensures tied { IsTied spots.new.items frames.new.slots }
     ensures few { length spots.new.items ≤ length spots.old.items }
     ensures spots { vec_capacity spots.new ≡ vec_capacity spots.old }
@@ -454,8 +489,11 @@ fn replace_in(
     requires spots { most ≤ vec_capacity spots.old }
     requires frames { most ≤ frames.old.capacity }
     requires pages { ArePages pid.0 region.0 pages.now }
-    ensures ok { OnOk result (images frames.new.slots spots.new.items ≡ with_pages pid.0 region.0 pages.now (images frames.old.slots spots.old.items)) }
-    ensures full { is_err result ≡ nat_lt most (length (with_pages pid.0 region.0 pages.now (images frames.old.slots spots.old.items))) }
+    ensures ok { let before = images frames.old.slots spots.old.items in
+        let after = images frames.new.slots spots.new.items in
+        OnOk result (after ≡ with_pages pid.0 region.0 pages.now before) }
+    ensures full { let before = images frames.old.slots spots.old.items in
+        is_err result ≡ nat_lt most (length (with_pages pid.0 region.0 pages.now before)) }
     ensures err { OnErr result ((frames.new ≡ frames.old) × (spots.new ≡ spots.old)) }
     ensures tied { IsTied spots.new.items frames.new.slots }
     ensures few { length spots.new.items ≤ most }
@@ -479,7 +517,8 @@ pub(crate) fn drop_region(
     region: RegionNo,
 )
     requires tied { IsTied spots.old.items frames.old.slots }
-    ensures pages { images frames.new.slots spots.new.items ≡ without page_key (is_page_of pid.0 region.0) (images frames.old.slots spots.old.items) }
+    ensures pages { let before = images frames.old.slots spots.old.items in
+        images frames.new.slots spots.new.items ≡ without page_key (is_page_of pid.0 region.0) before }
     ensures tied { IsTied spots.new.items frames.new.slots }
     ensures few { length spots.new.items ≤ length spots.old.items }
     ensures spots { vec_capacity spots.new ≡ vec_capacity spots.old }

@@ -211,6 +211,7 @@ module _ (t : Track) (issuer : Place) (operation : Operation) (owners : List Hom
     mapped = middle.plain.mapped;
     whole = middle.plain.whole;
     lists = middle.plain.lists;
+    numbers = middle.plain.numbers;
   }
 
   open_fits : OpenFits (memory_count t.shape) owners t.plain (t.next + 1) begun

@@ -75,6 +75,7 @@ homes_fit n owners f pid region owner owned fits = record {
   mapped = fits.mapped;
   whole = fits.whole;
   lists = fits.lists;
+  numbers = fits.numbers;
 }
   where
     homes : (p r : ℕ) (o : MemId) → cond (pid == p && region == r) (Some owner) (f.homes p r) ≡ Some o → owner_of owners p r ≡ Some o
@@ -119,6 +120,7 @@ areas_fit n owners f pid region areas owner fit fits = record {
   mapped = mapped;
   whole = fits.whole;
   lists = lists_form f pid region areas fit.form fits.lists;
+  numbers = fits.numbers;
 }
   where
     mapped : (p vpn : ℕ) → touched f p vpn ≡ true → IsMapped (with_region pid region areas f) p vpn
@@ -166,6 +168,7 @@ patch_fit n owners f patch owner fit fits = record {
   mapped = mapped;
   whole = whole;
   lists = fits.lists;
+  numbers = fits.numbers;
 }
   where
     pages : (p vpn : ℕ) → owner_of owners p (vpn / 512) ≡ None → laid_on patch p vpn (f.page p vpn) ≡ None
@@ -233,6 +236,7 @@ unmap_fit n owners f pid region first pages areas owner fit fits = record {
   mapped = mapped;
   whole = λ p vpn bytes is. whole (is_page_from pid first pages (key_at p vpn)) p vpn bytes is;
   lists = lists_form f pid region areas fit.form fits.lists;
+  numbers = fits.numbers;
 }
   where
     gone : (b : Bool) (page : Option (List ℕ)) → page ≡ None → cond b None page ≡ None

@@ -45,6 +45,7 @@ copy_fits_one n owners f parent child r owner owned fits = record {
   mapped = mapped;
   whole = λ p vpn bytes e. whole (is_page_of child r (key_at p vpn)) p vpn bytes e;
   lists = λ p q. form (child == p && r == q) p q;
+  numbers = fits.numbers;
 }
   where
     areas : (p q : ℕ) → owner_of owners p q ≡ None → cond (child == p && r == q) (f.areas parent q) (f.areas p q) ≡ []

@@ -114,6 +114,7 @@ fits_after n owners f pid fits = record {
   mapped = mapped;
   whole = λ p vpn bytes e. fits.whole p vpn bytes (there (is_of pid (key_at p vpn)) (f.page p vpn) bytes e);
   lists = λ p r. form (is_of pid (key_at p r)) p r;
+  numbers = fits.numbers;
 }
   where
     nothing_left : {X : Type 0} (b : Bool) (c : Option MemId) (held nothing : X) → cond b None c ≡ None → (c ≡ None → held ≡ nothing) → cond b nothing held ≡ nothing

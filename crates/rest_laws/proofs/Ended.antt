@@ -78,7 +78,7 @@ absent_under : (log : List Patch) (pid vpn : ℕ) (page : Option (List ℕ)) →
 absent_under log pid vpn None e = refl
 absent_under log pid vpn (Some bytes) e = absurd (over_there log pid vpn bytes e)
 
-get_within : {X : Type 0} (xs : List X) (i : ℕ) → i < length xs → (x : X) × (slice_get xs i ≡ Some x)
+pub get_within : {X : Type 0} (xs : List X) (i : ℕ) → i < length xs → (x : X) × (slice_get xs i ≡ Some x)
 get_within [] i less = absurd (omega (arith, less))
 get_within (x ∷ xs) zero less = (x, refl)
 get_within (x ∷ xs) (suc i) less = get_within xs i (omega (arith, less))

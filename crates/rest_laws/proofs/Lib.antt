@@ -14,6 +14,8 @@ pub mod Begun
 pub mod Ended
 pub mod Lost
 pub mod Crashed
+pub mod FileLists
+pub mod Blocks
 pub mod Unchanged
 pub mod Changed
 pub mod Dropping
@@ -25,3 +27,4 @@ pub mod Meeting
 pub mod Replied
 pub mod Pages
 pub mod kinds
+pub mod Backing

@@ -6,15 +6,15 @@ use Rattle.std.specs.List.{AllByRecursion}
 use Rattle.lego_base.specs.declared.ids.MemId.{MemId}
 use Rattle.lego_msg.specs.Deliveries.{MayDeliver, taken}
 use Rattle.lego_msg.specs.Places.{memory, same_place, secondary_of}
-use Rattle.lego_msg.specs.State.{Mem}
+use Rattle.lego_msg.specs.State.{Block, Mem}
 use Rattle.lego_msg.specs.Track.{Track, healing_move, memory_count}
 use Rattle.lego_msg.specs.declared.message.Message.{Message}
 use Rattle.lego_msg.specs.declared.operation.Open.{Open}
 use Rattle.lego_msg.specs.declared.place.Place.{Place}
 use Rattle.lego_rest.specs.Answers.{all_pending}
-use Rattle.lego_rest.specs.Fits.{BatchFits, IsRequest, MemFits, OpenFits, background, is_background}
+use Rattle.lego_rest.specs.Fits.{BatchFits, IsRequest, MemFits, OpenFits, background, changes_block, is_background}
 use Rattle.lego_rest.specs.Parts.{Cell, IsEither, main_part, second_part, sides_of}
-use Rattle.lego_rest.specs.Pending.{IsAway, IsNot, IsPlace, IsUp, MayPend}
+use Rattle.lego_rest.specs.Pending.{IsAway, IsNot, IsOfMove, IsPlace, IsUp, MayPend}
 use Rattle.lego_rest.specs.Rest.{CurrentFits, MemHolds, Middle}
 use Rattle.rest_laws.proofs.Delivered.{left_of}
 use Rattle.rest_laws.proofs.Opened.{numbered_is_no_batch}
@@ -29,6 +29,8 @@ pub record Met (lost : Option ℕ) (t : Track) (o : Open) (k : ℕ) (s : Mem) (m
   pub number : m.op.0 ≡ o.number.0
   pub away : IsAway lost m
   pub not_move : IsNot (healing_move t.healing) m.op.0
+  -- no message of a move changes a block
+  pub moves : (b : Block) → AllByRecursion (λ (x : Message). IsOfMove x (healing_move t.healing) → changes_block b x.body ≡ false) (all_pending t)
 
 pub memory_same : (a b : ℕ) → memory a ≡ memory b → a ≡ b
 memory_same a b e = ap number_of e

@@ -14,3 +14,6 @@ pub mod Spaces
 pub mod Copied
 pub mod Copies
 pub mod Naming
+pub mod Caching
+pub mod FilesRead
+pub mod FilesChanged

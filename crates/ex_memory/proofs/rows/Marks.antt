@@ -96,6 +96,9 @@ a_copy_over_two_lines = refl
 a_load_that_leaves_the_pages : script (after []) (Refused Load 1 0x21ffe 4 ∷ []) [] ≡ finds 0 ∷ reads 0x87f 0 ∷ access shown.Load 0x21ffe (0 ∷ 0 ∷ []) ∷ finds 0 ∷ reads 0x880 0 ∷ access shown.Probe 0x22000 [] ∷ []
 a_load_that_leaves_the_pages = refl
 
+what_has_no_area_puts_nothing_out : script (after (Refused Load 1 0x21ffe 4 ∷ [])) (Reads Load 1 0x21ffe (0 ∷ []) ∷ []) [] ≡ access shown.Load 0x21ffe (0 ∷ []) ∷ []
+what_has_no_area_puts_nothing_out = refl
+
 a_store_that_leaves_the_pages_is_all_probes : script (after []) (Refused Store 1 0x21ffe 4 ∷ []) [] ≡ finds 0 ∷ reads 0x87f 0 ∷ access shown.Probe 0x21ffe [] ∷ finds 0 ∷ reads 0x880 0 ∷ access shown.Probe 0x22000 [] ∷ []
 a_store_that_leaves_the_pages_is_all_probes = refl
 

@@ -1,5 +1,5 @@
 -- Cells that a row sets, and lists that stay in form.
-use Rattle.std.proofs.Common.{◌≡◌, ◌⊎◌, ◌<◌, ◌≤◌, ◌==◌, ◌&&◌, ◌||◌, [], ◌∷◌, ◌∙◌, ℕ, Bool, List, None, Option, Some, ap, arith, cond, false, inl, inr, length, not, refl, sym, true}
+use Rattle.std.proofs.Common.{◌≡◌, ◌⊎◌, ◌+◌, ◌<◌, ◌≤◌, ◌==◌, ◌&&◌, ◌||◌, [], ◌∷◌, ◌∙◌, ℕ, Bool, List, None, Option, Some, ap, arith, cond, false, inl, inr, length, not, refl, sym, true}
 use Rattle.std.proofs.Math.Nat.{mod-lt}
 use Rattle.std.proofs.lemmas.Bool.{eqb-true}
 use Rattle.std.specs.List.{AllByRecursion}
@@ -12,8 +12,12 @@ use Rattle.lego_base.specs.declared.records.Area.{Area}
 use Rattle.lego_base.specs.declared.records.HomeEntry.{HomeEntry}
 use Rattle.lego_base.specs.declared.records.PageImage.{PageImage}
 use Rattle.lego_base.specs.declared.records.SpaceAreas.{SpaceAreas}
+use Rattle.lego_base.specs.Pieces.{laid_over}
+use Rattle.lego_base.specs.declared.records.Patch.{Patch}
+use Rattle.lego_msg.specs.Granted.{PatchFits}
+use Rattle.rest_laws.proofs.Changed.{laid_length, whole_page}
 use Rattle.lego_msg.specs.Form.{IsRegionList}
-use Rattle.lego_msg.specs.Maps.{areas_at, areas_in, areas_key, home_key, image_bytes, owner_in, owner_of, page_in, page_key, with_areas}
+use Rattle.lego_msg.specs.Maps.{areas_at, areas_in, areas_key, bytes_or_zeros, home_key, image_bytes, overlaid, owner_in, owner_of, page_in, page_key, patched, with_areas}
 use Rattle.lego_rest.specs.Fits.{ListFits, PagesFit}
 use Rattle.lego_rest.specs.Parts.{owns}
 use Rattle.rest_laws.proofs.Truth.{both_true, not_zero}
@@ -125,3 +129,23 @@ fewer_pages test pages frames most = let less : length (without page_key test pa
 
 pub pages_left_fit : (test : Key → Bool) (pages : List PageImage) → PagesFit pages → PagesFit (without page_key test pages)
 pages_left_fit test pages fits = record { rise = Rises-without page_key test pages fits.rise; whole = all_those page_key (λ (p : PageImage). length p.bytes ≡ 4096) (λ (k : Key). not (test k)) pages fits.whole }
+
+-- PATCHES laid over pages
+pub patched_fit : (p : Patch) (pages : List PageImage) → PatchFits p → PagesFit pages → PagesFit (patched p pages)
+patched_fit p pages patch fits = record {
+  rise = Rises-put page_key laid pages fits.rise;
+  whole = all_put page_key (λ (q : PageImage). length q.bytes ≡ 4096) laid pages (laid_length (bytes_or_zeros (page_in pages p.pid.0 p.vpn.0)) p.off p.bytes within ∙ page_whole) fits.whole;
+}
+  where
+    laid : PageImage
+    laid = record { pid = p.pid; vpn = p.vpn; bytes = laid_over (bytes_or_zeros (page_in pages p.pid.0 p.vpn.0)) p.off p.bytes }
+
+    page_whole : length (bytes_or_zeros (page_in pages p.pid.0 p.vpn.0)) ≡ 4096
+    page_whole = whole_page (page_in pages p.pid.0 p.vpn.0) (found_whole pages p.pid.0 p.vpn.0 fits.whole)
+
+    within : p.off + length p.bytes ≤ length (bytes_or_zeros (page_in pages p.pid.0 p.vpn.0))
+    within = let most = patch.1 in omega (arith, most, page_whole)
+
+pub overlaid_fit : (ps : List Patch) (pages : List PageImage) → AllByRecursion PatchFits ps → PagesFit pages → PagesFit (overlaid ps pages)
+overlaid_fit [] pages patches fits = fits
+overlaid_fit (p ∷ ps) pages patches fits = overlaid_fit ps (patched p pages) patches.1 (patched_fit p pages patches.0 fits)

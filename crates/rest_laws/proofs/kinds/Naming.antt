@@ -19,6 +19,7 @@ use Rattle.lego_msg.specs.declared.operation.Open.{Open}
 use Rattle.lego_msg.specs.declared.operation.Operation.TheVariants.{CutsName, FreesFile, MakesName}
 use Rattle.lego_rest.specs.Fits.{changes_block}
 use Rattle.rest_laws.proofs.Filed.{FileGives}
+use Rattle.rest_laws.proofs.FileLists.{added_file, gone_file, other_file}
 use Rattle.rest_laws.proofs.kinds.Filing.{BlockStays, filed_one, issuer_answer}
 use Rattle.rest_laws.proofs.kinds.Kind.{KindRows, Reaches, StorageGives, rows_of, there}
 use Rattle.lego_msg.specs.declared.body.Body.TheVariants as body
@@ -42,26 +43,6 @@ freed_twice file (f ∷ files) = by (f.file == file) refl (freed_twice file file
     by : (b : Bool) → (f.file == file) ≡ b → without_file file (without_file file files) ≡ without_file file files → without_file file (cond b (without_file file files) (f ∷ without_file file files)) ≡ cond b (without_file file files) (f ∷ without_file file files)
     by true is rest = rest
     by false is rest = ap (λ (b : Bool). cond b (without_file file (without_file file files)) (f ∷ without_file file (without_file file files))) is ∙ ap (λ (l : List File). f ∷ l) rest
-
-gone_file : (file : ℕ) (files : List File) → is_file (without_file file files) file ≡ false
-gone_file file [] = refl
-gone_file file (f ∷ files) = by (f.file == file) refl (gone_file file files)
-  where
-    by : (b : Bool) → (f.file == file) ≡ b → is_file (without_file file files) file ≡ false → is_file (cond b (without_file file files) (f ∷ without_file file files)) file ≡ false
-    by true is rest = rest
-    by false is rest = ap (λ (b : Bool). b || is_file (without_file file files) file) is ∙ rest
-
--- every other file is as before
-other_file : (file n : ℕ) → (n ≡ file → ⊥) → (files : List File) → (is_file (without_file file files) n ≡ is_file files n) × (file_bytes (without_file file files) n ≡ file_bytes files n)
-other_file file n differ [] = (refl, refl)
-other_file file n differ (f ∷ files) = by (f.file == file) refl (other_file file n differ files)
-  where
-    by : (b : Bool) → (f.file == file) ≡ b → (is_file (without_file file files) n ≡ is_file files n) × (file_bytes (without_file file files) n ≡ file_bytes files n) → (is_file (cond b (without_file file files) (f ∷ without_file file files)) n ≡ (f.file == n || is_file files n)) × (file_bytes (cond b (without_file file files) (f ∷ without_file file files)) n ≡ cond (f.file == n) f.bytes (file_bytes files n))
-    by true is rest = elim (eqb_tells f.file n) [
-      | inl same ↦ absurd (differ (sym same.1 ∙ eqb-true f.file file is))
-      | inr apart ↦ (rest.0 ∙ sym (ap (λ (b : Bool). b || is_file files n) apart.0), rest.1 ∙ sym (ap (λ (b : Bool). cond b f.bytes (file_bytes files n)) apart.0))
-    ]
-    by false is rest = (ap (λ (b : Bool). f.file == n || b) rest.0, ap (λ (l : List ℕ). cond (f.file == n) f.bytes l) rest.1)
 
 freed_stays : (file : ℕ) (f : Files) (b : Block) → is_file (freed f file).files b.file ≡ true → BlockStays f (freed f file) b
 freed_stays file f b = by (has_name f.names file)
@@ -121,14 +102,6 @@ made_again name f = by (named f.names name) refl (is_file_room f) refl
           ap (λ (g : Files). made g name) same ∙ again f None is,
           ap (λ (g : Files). made_reply (named g.names name) g) same ∙ ap (λ (x : Option FileNo). made_reply x f) is,
         )
-
--- a file that is made is a later one than any that is cached
-added_file : (x : File) (n : ℕ) → n < x.file → (files : List File) → (is_file (files ++ x ∷ []) n ≡ is_file files n) × (file_bytes (files ++ x ∷ []) n ≡ file_bytes files n)
-added_file x n less [] = elim (eqb_tells x.file n) [
-  | inl same ↦ let is = same.1 in absurd (omega (arith, less, is))
-  | inr apart ↦ (ap (λ (b : Bool). b || false) apart.0, ap (λ (b : Bool). cond b x.bytes []) apart.0)
-]
-added_file x n less (f ∷ files) = let rest = added_file x n less files in (ap (λ (b : Bool). f.file == n || b) rest.0, ap (λ (l : List ℕ). cond (f.file == n) f.bytes l) rest.1)
 
 abbrev made_case : Option FileNo → Bool → Files → List ℕ → Files
 made_case (Some file) room f name = f

@@ -33,7 +33,7 @@ use Rattle.rest_laws.proofs.Opened.{all_both}
 use Rattle.rest_laws.proofs.Pages.{over_append, over_twice}
 use Rattle.rest_laws.proofs.Replied.{Change, all_new, answer_pends, keeping, none_changes, replied}
 use Rattle.rest_laws.proofs.Truth.{both_true}
-use Rattle.rest_laws.proofs.kinds.Cells.{agreed, all_put, found_whole, owns_this}
+use Rattle.rest_laws.proofs.kinds.Cells.{agreed, owns_this, patched_fit}
 use Rattle.rest_laws.proofs.kinds.Draining.{drain_gives}
 use Rattle.rest_laws.proofs.kinds.Kind.{FirstGives, KindRows, MemoryGives, StorageGives, here, no_answer_here, no_answer_there, storage_apart}
 use Rattle.rest_laws.proofs.kinds.Logging.{carries_on, logging, ruled}
@@ -85,24 +85,6 @@ module _ (lost : Option ℕ) (t : Track) (o : Open) (origin : Origin) (patch : P
         agree p v = ap (λ (b : Bool). b && patch.vpn.0 / 512 == vpn / 512) (eq-eqb patch.pid.0 pid p) ∙ eq-eqb (patch.vpn.0 / 512) (vpn / 512) (ap (λ (q : ℕ). q / 512) v)
 
     -- AT THE OWNER
-    pages_fit : (s : Mem) → (m : Message) → Met lost t writing owner.0 s m → PagesFit (patched patch s.pages)
-    pages_fit s m met = record {
-      rise = Rises-put page_key laid s.pages was.pages.rise;
-      whole = all_put page_key (λ (p : PageImage). length p.bytes ≡ 4096) laid s.pages (laid_length (bytes_or_zeros (page_in s.pages patch.pid.0 patch.vpn.0)) patch.off patch.bytes within ∙ page_whole) was.pages.whole;
-    }
-      where
-        was : MemFits t.shape owner.0 s
-        was = met_fits lost t writing owner.0 s m met
-
-        laid : PageImage
-        laid = record { pid = patch.pid; vpn = patch.vpn; bytes = laid_over (bytes_or_zeros (page_in s.pages patch.pid.0 patch.vpn.0)) patch.off patch.bytes }
-
-        page_whole : length (bytes_or_zeros (page_in s.pages patch.pid.0 patch.vpn.0)) ≡ 4096
-        page_whole = whole_page (page_in s.pages patch.pid.0 patch.vpn.0) (found_whole s.pages patch.pid.0 patch.vpn.0 was.pages.whole)
-
-        within : patch.off + length patch.bytes ≤ length (bytes_or_zeros (page_in s.pages patch.pid.0 patch.vpn.0))
-        within = let most = fits.patch.1 in omega (arith, most, page_whole)
-
     written : (s : Mem) → MemoryGives lost t writing owner.0 s write_message
     written s met = by (leb (length (patched patch s.pages)) s.frames) refl
       where
@@ -118,7 +100,7 @@ module _ (lost : Option ℕ) (t : Track) (o : Open) (origin : Origin) (patch : P
         own (Page p vpn) = page-patched patch s.pages p vpn ∙ laid_new (memory_count t.shape) t.owners t.plain patch owner.0 p vpn (page_in s.pages p vpn) fits.patch met.middle.plain (owned owner.0 p vpn refl) (met_main lost t writing owner.0 s write_message met (Page p vpn))
 
         by : (b : Bool) → leb (length (patched patch s.pages)) s.frames ≡ b → RowGives lost t writing owner.0 s (cond b (answers (keeping s s.main s.spare (patched patch s.pages)) write_message body.Wrote) (answers s write_message (body.Refused why.Full))).0 (cond b (answers (keeping s s.main s.spare (patched patch s.pages)) write_message body.Wrote) (answers s write_message (body.Refused why.Full))).1
-        by true room = replied lost t writing owner.0 s write_message met s.main s.spare (patched patch s.pages) body.Wrote refl target (inr (refl, inl refl)) (λ b. refl) was.main was.spare (pages_fit s write_message met) (leb-true (length (patched patch s.pages)) s.frames room)
+        by true room = replied lost t writing owner.0 s write_message met s.main s.spare (patched patch s.pages) body.Wrote refl target (inr (refl, inl refl)) (λ b. refl) was.main was.spare (patched_fit patch s.pages fits.patch was.pages) (leb-true (length (patched patch s.pages)) s.frames room)
             (all_new t writing true owner.0 s s.main s.spare (patched patch s.pages) own (λ j below is c speaks. seconds_same j below is c))
           where
             seconds_same : (j : ℕ) → j < memory_count t.shape → secondary_of (memory_count t.shape) j ≡ owner.0 → (c : Cell) → second_part t.owners t.disk.images j (keeping s s.main s.spare (patched patch s.pages)) c ≡ new_share (sides_of (record t { current = Some writing })) j c

@@ -1,4 +1,4 @@
-use Rattle.std.proofs.Common.{◌≡◌, ◌+◌, ◌-◌, ◌≤◌, ap, arith, leb, length}
+use Rattle.std.proofs.Common.{◌≡◌, ◌+◌, ◌-◌, arith, leb, length}
 use Rattle.lego_msg.specs.Maps.{copied_pages}
 use Rattle.mem_monitor.proofs.Copying.{length_copies}
 use Rattle.mem_monitor.proofs.copies.copy_fits.Goals as goal

@@ -1,4 +1,4 @@
-use Rattle.std.proofs.Common.{◌≡◌, ◌≤◌, ◌∙◌, ap, arith, length}
+use Rattle.std.proofs.Common.{◌∙◌, ap, arith, length}
 use Rattle.lego_msg.specs.Maps.{copied_pages}
 use Rattle.mem_monitor.proofs.Cleared.{counts_cleared}
 use Rattle.mem_monitor.proofs.Copying.{copied_cleared}

@@ -1,5 +1,5 @@
-use Rattle.std.proofs.Common.{◌≡◌, ◌+◌, ◌≤◌, ◌∷◌, List, ap, arith, drop, get_or, length, ℕ}
-use Rattle.std.proofs.lemmas.List.{drop_all, drop_more}
+use Rattle.std.proofs.Common.{List, ap, arith}
+use Rattle.std.proofs.lemmas.List.{drop_more}
 use Rattle.lego_base.specs.declared.ids.RegionNo.{RegionNo}
 use Rattle.mem_monitor.proofs.Copying.{counts_few}
 use Rattle.mem_monitor.specs.Counted.{counts}

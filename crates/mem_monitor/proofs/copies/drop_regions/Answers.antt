@@ -1,4 +1,4 @@
-use Rattle.std.proofs.Common.{◌≡◌, ◌+◌, ◌∷◌, ◌∙◌, List, ap, drop, get_or, sym}
+use Rattle.std.proofs.Common.{◌+◌, ◌∙◌, List, ap, drop, sym}
 use Rattle.std.proofs.lemmas.List.{drop_more}
 use Rattle.lego_base.specs.declared.ids.RegionNo.{RegionNo}
 use Rattle.mem_monitor.specs.Counted.{cleared}

@@ -1,6 +1,5 @@
 use Rattle.std.proofs.Common.{◌≡◌, drop}
 use Rattle.mem_monitor.specs.Counted.{cleared}
-use Rattle.page_store.specs.Store.{holding}
 use Rattle.mem_monitor.proofs.copies.drop_regions.Given as goal
 
 abbrev pub invariant-loop-region : goal.invariant-loop-region

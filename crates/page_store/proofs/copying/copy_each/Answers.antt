@@ -1,6 +1,6 @@
-use Rattle.std.proofs.Common.{◌≡◌, ◌+◌, ◌<◌, ◌≤◌, ◌∷◌, ◌∙◌, List, None, ap, arith, drop, length, map, refl, subst, sym, ℕ}
+use Rattle.std.proofs.Common.{◌+◌, ◌∷◌, ◌∙◌, List, ap, arith, drop, length, map, refl, subst, sym}
 use Rattle.std.proofs.lemmas.List.{length-map}
-use Rattle.lego_base.specs.Keys.{Key, find, is_page_of, key_at, put, put_all}
+use Rattle.lego_base.specs.Keys.{is_page_of, key_at, put_all}
 use Rattle.lego_base.specs.declared.records.PageImage.{PageImage}
 use Rattle.lego_msg.specs.Form.{EachOnce}
 use Rattle.lego_msg.specs.Maps.{for_child, page_key, pages_of}

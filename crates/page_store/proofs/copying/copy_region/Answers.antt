@@ -1,7 +1,6 @@
-use Rattle.std.proofs.Common.{◌≡◌, ◌+◌, ◌-◌, ◌<◌, ◌≤◌, ◌∙◌, List, None, ap, arith, false, length, map, subst, sym, ℕ}
+use Rattle.std.proofs.Common.{◌∙◌, List, ap, arith, length, map, sym}
 use Rattle.std.proofs.lemmas.Bool.{le-ltb, lt-ltb}
-use Rattle.lego_base.specs.Keys.{find, is_page_of, key_at, put_all, without}
-use Rattle.lego_base.specs.declared.records.PageImage.{PageImage}
+use Rattle.lego_base.specs.Keys.{find, is_page_of, key_at, put_all}
 use Rattle.lego_msg.specs.Maps.{for_child, page_key, pages_of}
 use Rattle.page_store.proofs.Copied.{differ, length-copied, none_left, other_page, those_without}
 use Rattle.page_store.proofs.Formed.{are_pages}

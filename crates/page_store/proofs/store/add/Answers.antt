@@ -1,10 +1,8 @@
-use Rattle.std.proofs.Common.{◌≡◌, ◌+◌, ◌<◌, ◌^◌, ◌∙◌, List, None, Option, Some, ap, arith, get_or, length, refl, subst, suc, sym}
+use Rattle.std.proofs.Common.{◌<◌, ◌^◌, ◌∙◌, List, ap, arith, length, refl, subst, sym}
 use Rattle.std.specs.List.{AllByRecursion}
-use Rattle.lego_base.specs.Keys.{put}
 use Rattle.page_store.proofs.Laid.{all-put, held_added, images_added}
 use Rattle.page_store.proofs.Places.{length-put_new}
 use Rattle.page_store.specs.Spots.{AreHeld, images, spot_key}
-use Rattle.page_store.specs.declared.frames.Page.{Page}
 use Rattle.page_store.specs.declared.spot.Spot.{Spot}
 use Rattle.page_store.proofs.store.add.Goals as goal
 

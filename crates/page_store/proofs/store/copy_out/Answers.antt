@@ -1,11 +1,9 @@
-use Rattle.std.proofs.Common.{◌≡◌, ◌+◌, ◌≤◌, ◌∙◌, List, None, Option, Some, ap, arith, drop, get_or, length, refl, replicate, sym, take, ℕ}
+use Rattle.std.proofs.Common.{◌∙◌, List, None, ap, get_or, length, refl, sym, ℕ}
 use Rattle.lego_base.specs.Keys.{find, key_at}
-use Rattle.lego_base.specs.Pieces.{piece, zeros}
+use Rattle.lego_base.specs.Pieces.{piece}
 use Rattle.page_store.proofs.Laid.{found_held, page_absent, page_there, slot_of, zeros_piece}
 use Rattle.page_store.proofs.Owned.{from_frame, from_none}
-use Rattle.page_store.specs.Spots.{bytes_in, spot_key}
-use Rattle.page_store.specs.declared.frames.Page.{Page}
-use Rattle.page_store.specs.declared.spot.Spot.{Spot}
+use Rattle.page_store.specs.Spots.{spot_key}
 use Rattle.page_store.proofs.store.copy_out.Goals as goal
 
 pub read-requires-clause-held : goal.read-requires-clause-held

@@ -1,4 +1,4 @@
-use Rattle.std.proofs.Common.{◌≡◌, ◌∙◌, ap, length, sym}
+use Rattle.std.proofs.Common.{◌∙◌, ap, length, sym}
 use Rattle.lego_base.specs.Keys.{is_page_of, those}
 use Rattle.page_store.proofs.Places.{length-images, those-images}
 use Rattle.page_store.specs.Spots.{spot_key}

@@ -1,9 +1,8 @@
-use Rattle.std.proofs.Common.{◌≡◌, ◌+◌, ◌-◌, ◌≤◌, ◌∙◌, List, ap, arith, drop, length, subst, sym, take, ℕ}
-use Rattle.std.specs.List.{AllByRecursion}
+use Rattle.std.proofs.Common.{◌≡◌, ◌-◌, ◌∙◌, List, ap, arith, drop, length, subst, sym, take, ℕ}
 use Rattle.lego_base.specs.Keys.{those, without}
 use Rattle.keyed_list.specs.Below.{is_within}
 use Rattle.keyed_list.specs.Places.{IsSpan}
-use Rattle.page_store.proofs.Freed.{images_gone, parts, tied_gone}
+use Rattle.page_store.proofs.Freed.{images_gone, tied_gone}
 use Rattle.page_store.specs.Spots.{IsTied, freed, images, spot_key}
 use Rattle.page_store.specs.declared.spot.Spot.{Spot}
 use Rattle.page_store.proofs.store.drop_span.Goals as goal

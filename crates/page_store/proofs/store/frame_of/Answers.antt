@@ -1,4 +1,4 @@
-use Rattle.std.proofs.Common.{◌∙◌, sym}
+use Rattle.std.proofs.Common.{sym}
 use Rattle.page_store.proofs.Owned.{frame_is}
 use Rattle.page_store.proofs.store.frame_of.Goals as goal
 

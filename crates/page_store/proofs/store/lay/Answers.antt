@@ -1,8 +1,7 @@
-use Rattle.std.proofs.Common.{◌≡◌, ◌+◌, ◌<◌, ◌≤◌, ◌∙◌, List, None, ap, arith, length, suc, sym, ℕ}
+use Rattle.std.proofs.Common.{◌≡◌, ◌∙◌, List, None, ap, arith, length, sym, ℕ}
 use Rattle.std.proofs.lemmas.Bool.{le-ltb, lt-ltb}
 use Rattle.lego_base.specs.Keys.{find, key_at, put}
 use Rattle.lego_base.specs.Pieces.{laid_over}
-use Rattle.lego_base.specs.declared.records.PageImage.{PageImage}
 use Rattle.lego_msg.specs.Maps.{page_key, patched}
 use Rattle.page_store.proofs.Laid.{length_added, page_absent}
 use Rattle.page_store.proofs.Owned.{from_none}

@@ -1,4 +1,4 @@
-use Rattle.std.proofs.Common.{◌≡◌, ◌∙◌, List, None, Option, Some, ap, get_or, refl, set, subst, sym, ℕ}
+use Rattle.std.proofs.Common.{◌∙◌, List, None, Option, ap, get_or, refl, set, subst, sym, ℕ}
 use Rattle.lego_base.specs.Keys.{find, key_at}
 use Rattle.page_store.proofs.Laid.{found_held, held_over, images_over, length_over, slot_of}
 use Rattle.page_store.proofs.Owned.{from_frame}

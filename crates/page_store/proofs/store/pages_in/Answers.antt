@@ -1,10 +1,10 @@
 use Rattle.std.proofs.Common.{◌≡◌, ◌∙◌, List, ap, subst, sym}
 use Rattle.std.specs.Prelude.{IfOk}
-use Rattle.lego_base.specs.Keys.{is_page_of, those}
+use Rattle.lego_base.specs.Keys.{is_page_of}
 use Rattle.lego_base.specs.declared.records.PageImage.{PageImage}
 use Rattle.page_store.proofs.Places.{those-images}
 use Rattle.page_store.proofs.Formed.{are_pages}
-use Rattle.page_store.specs.Spots.{images, spot_key}
+use Rattle.page_store.specs.Spots.{images}
 use Rattle.page_store.proofs.store.pages_in.Goals as goal
 
 pub returns-clause-pages : goal.returns-clause-pages

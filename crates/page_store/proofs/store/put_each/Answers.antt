@@ -1,4 +1,4 @@
-use Rattle.std.proofs.Common.{◌≡◌, ◌+◌, ◌≤◌, ◌∷◌, ◌∙◌, List, ap, arith, drop, get_or, length, ltb, subst, sym, ℕ}
+use Rattle.std.proofs.Common.{◌≡◌, ◌+◌, ◌≤◌, ◌∷◌, ◌∙◌, List, ap, drop, length, ltb, subst, sym, ℕ}
 use Rattle.std.proofs.lemmas.List.{drop_more}
 use Rattle.lego_base.specs.Keys.{put, put_all}
 use Rattle.lego_base.specs.declared.records.PageImage.{PageImage}

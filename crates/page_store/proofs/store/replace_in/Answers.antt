@@ -1,4 +1,4 @@
-use Rattle.std.proofs.Common.{◌≡◌, ◌+◌, ◌-◌, ◌<◌, ◌≤◌, ◌∙◌, List, ap, arith, length, sym}
+use Rattle.std.proofs.Common.{◌∙◌, List, ap, arith, length, sym}
 use Rattle.std.proofs.lemmas.Bool.{lt-ltb}
 use Rattle.lego_base.specs.Keys.{put_all}
 use Rattle.lego_base.specs.declared.records.PageImage.{PageImage}

@@ -1,4 +1,4 @@
-use Rattle.std.proofs.Common.{◌∙◌, sym}
+use Rattle.std.proofs.Common.{sym}
 use Rattle.page_store.proofs.Formed.{are_pages, rises_images}
 use Rattle.page_store.proofs.Places.{length-images}
 use Rattle.page_store.proofs.store.used_in.Goals as goal

@@ -1,4 +1,3 @@
-use Rattle.std.proofs.Common.{◌≡◌, ◌∙◌, sym}
 use Rattle.lego_msg.specs.Maps.{patched}
 use Rattle.lego_msg.specs.State.{Mem}
 use Rattle.lego_msg.specs.Table.{write_row}

@@ -1,8 +1,8 @@
-use Rattle.std.proofs.Common.{◌≡◌, ◌∙◌, arith, ap, subst, sym, ℕ}
+use Rattle.std.proofs.Common.{◌≡◌, ◌∙◌, arith, ap, sym, ℕ}
 use Rattle.lego_base.specs.Keys.{is_page_from, without}
 use Rattle.lego_msg.specs.Maps.{page_key}
 use Rattle.page_store.proofs.Freed.{without_none}
-use Rattle.page_store.specs.Store.{Store, holding}
+use Rattle.page_store.specs.Store.{holding}
 use Rattle.page_store.proofs.store.PageStore.drop_pages.Goals as goal
 
 pub returns-else-pages-gt0 : goal.returns-else-pages-gt0

@@ -1,0 +1,4 @@
+pub mod Effects
+pub mod Lawful
+pub mod Laws
+pub mod Tried

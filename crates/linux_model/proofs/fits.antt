@@ -1,0 +1,9 @@
+pub mod Slots
+pub mod Processes
+pub mod Files
+pub mod Kept
+pub mod Found
+pub mod Harmless
+pub mod Calls
+pub mod Descriptors
+pub mod Runs
