@@ -10,7 +10,9 @@ use Rattle.file_table.specs.declared.fault.FileFault.TheVariants.{NoMemory, NoRo
 -- A name is made: it is there, or there is room for another file. It is refused exactly where neither is so.
 abbrev pub IsMade : Files → Files → List ℕ → Result FileNo FileFault → Type 0
 IsMade old new name (Ok file) =
-    (is_some (named old.names name) || is_file_room old ≡ true) × (new ≡ made old name) × (file ≡ unwrap_or (named old.names name) (record { 0 = old.next }))
+    (is_some (named old.names name) || is_file_room old ≡ true)
+    × (new ≡ made old name)
+    × (file ≡ unwrap_or (named old.names name) (record { 0 = old.next }))
 IsMade old new name (Err NoRoom) = (is_some (named old.names name) || is_file_room old ≡ false) × (new ≡ old)
 IsMade old new name (Err StoreFull) = ⊥
 IsMade old new name (Err NoMemory) = new ≡ old

@@ -197,7 +197,8 @@ fn needed_after(needed: u64, blocks: u32, old: usize, size: usize) -> Option<u64
     requires counted { blocks_for old ≤ needed }
     requires within { needed ≤ blocks }
     requires short { size < 2 ^ 63 }
-    ensures { MatchOption result (blocks < needed - blocks_for old + blocks_for size) (λ n. (n ≡ needed - blocks_for old + blocks_for size) × (n ≤ blocks)) }
+    ensures { let after = needed - blocks_for old + blocks_for size in
+        MatchOption result (blocks < after) (λ n. (n ≡ after) × (n ≤ blocks)) }
 {
     let needed = needed - blocks_for(old) + blocks_for(size);
     (needed <= blocks as u64).then_some(needed)
