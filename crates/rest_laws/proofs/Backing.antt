@@ -50,7 +50,7 @@ only_one k net net' m x split is one = by (background k split.front) (sym (ap (b
     by (y ∷ []) e = cc e
     by (y ∷ z ∷ front) e = cc e
 
-not_none : (k : ℕ) (net net' : List Message) (m : Message) → Split net net' m → is_background k m ≡ true → background k net ≡ [] → ⊥
+pub not_none : (k : ℕ) (net net' : List Message) (m : Message) → Split net net' m → is_background k m ≡ true → background k net ≡ [] → ⊥
 not_none k net net' m split is none = by (background k split.front) (sym (ap (background k) split.whole ∙ filter-append (is_background k) split.front (m ∷ split.back) ∙ ap (λ (b : Bool). background k split.front ++ cond b (m ∷ background k split.back) (background k split.back)) is) ∙ none)
   where
     by : (front : List Message) → front ++ m ∷ background k split.back ≡ [] → ⊥

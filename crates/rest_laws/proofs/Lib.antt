@@ -28,3 +28,8 @@ pub mod Replied
 pub mod Pages
 pub mod kinds
 pub mod Backing
+pub mod Receipt
+pub mod Requests
+pub mod Comes
+pub mod Goes
+pub mod Leads

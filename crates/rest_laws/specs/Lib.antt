@@ -10,3 +10,4 @@ pub mod Beginning
 pub mod Completing
 pub mod Crashing
 pub mod KindsEnding
+pub mod GoingOn

@@ -10,6 +10,7 @@ ghost use Rattle.rest_laws.specs.Beginning.{OperationBegins};
 ghost use Rattle.rest_laws.specs.Completing.{OperationEnds};
 ghost use Rattle.rest_laws.specs.Crashing.{CrashBegins};
 ghost use Rattle.rest_laws.specs.Delivering.{OldIsDropped, AnswerIsNoted, ReactionIsOwed};
+ghost use Rattle.rest_laws.specs.GoingOn.{AnswersAreTrue, EventsKeep, LeadsBack, ListsKeep};
 ghost use Rattle.rest_laws.specs.KindsEnding.{EveryKindEnds};
 ghost use Rattle.rest_laws.specs.Sending.{OwedIsSent, FirstIsSent};
 
@@ -141,4 +142,26 @@ pub fn crashes_begin_in_the_relation()
 /// Every kind of operation that is called for meets the law of its completion, where its caller owes nothing.
 pub fn every_kind_ends()
     ensures { EveryKindEnds }
+{}
+
+/// Every event but a crash keeps the relation, whatever kind of operation is open, where nothing is lost and the operation
+/// that begins with it is granted.
+pub fn every_event_keeps_the_relation()
+    ensures { EventsKeep }
+{}
+
+/// A legal list without a crash leads from rest to the relation, where each operation is granted as it begins.
+pub fn lists_without_a_crash_keep_the_relation()
+    ensures { ListsKeep }
+{}
+
+/// The answers that an open operation has got say what is so of the plain map before it.
+pub fn answers_say_what_is_so()
+    ensures { AnswersAreTrue }
+{}
+
+/// An operation that is granted at rest leads back to rest, through every legal list of sends and deliveries and its
+/// completion; its effect on the plain map is all that is new.
+pub fn an_operation_leads_back_to_rest()
+    ensures { LeadsBack }
 {}

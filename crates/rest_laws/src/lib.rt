@@ -12,11 +12,12 @@
 mod laws;
 
 pub use laws::{
-    a_delivery_takes_one_out, answers_are_noted_in_the_relation,
+    a_delivery_takes_one_out, an_operation_leads_back_to_rest, answers_are_noted_in_the_relation,
+    answers_say_what_is_so,
     answers_to_nobody_are_dropped_in_the_relation, areas_are_those_set,
     batches_stay_until_they_are_delivered, crashes_begin_in_the_relation,
-    entries_are_found_where_put, entries_that_go_are_not_found, every_kind_ends,
-    first_messages_are_sent_in_the_relation, lists_rise_with_one_more, lists_rise_without_some,
+    entries_are_found_where_put, entries_that_go_are_not_found, every_event_keeps_the_relation, every_kind_ends,
+    first_messages_are_sent_in_the_relation, lists_rise_with_one_more, lists_without_a_crash_keep_the_relation, lists_rise_without_some,
     memories_guard_their_own, no_two_memories_share_a_secondary, operations_begin_in_the_relation,
     operations_end_in_the_relation, overlaid_pages_are_patched_in_order, patches_change_their_page,
     questions_of_the_others_stay, reactions_are_owed_in_the_relation,
