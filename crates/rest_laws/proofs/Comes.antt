@@ -57,7 +57,7 @@ module _ (t : Track) (o : Open) (m : Message) (may : MayDeliver (record t { heal
   rows = every_kind_rows None calm o middle
 
   -- A MEMORY
-  row_comes : (k : ℕ) (s : Mem) → m.to ≡ memory k → slice_get t.mems k ≡ Some s → RowGives None calm o k s (handled s m).0 (handled s m).1
+  pub row_comes : (k : ℕ) (s : Mem) → m.to ≡ memory k → slice_get t.mems k ≡ Some s → RowGives None calm o k s (handled s m).0 (handled s m).1
   row_comes k s to at = by pends.kind
     where
       by : Pends None (memory_count t.shape) t.plain (Some o) None t.next m → RowGives None calm o k s (handled s m).0 (handled s m).1
@@ -82,7 +82,7 @@ module _ (t : Track) (o : Open) (m : Message) (may : MayDeliver (record t { heal
           get_within t.mems k (omega (arith, below, count))
 
   -- STORAGE
-  file_comes : m.to ≡ place.Storage → FileGives None calm o (stored t.disk m).0 (stored t.disk m).1
+  pub file_comes : m.to ≡ place.Storage → FileGives None calm o (stored t.disk m).0 (stored t.disk m).1
   file_comes to = by pends.kind
     where
       by : Pends None (memory_count t.shape) t.plain (Some o) None t.next m → FileGives None calm o (stored t.disk m).0 (stored t.disk m).1

@@ -55,7 +55,7 @@ place_is Manager (Memory b) e = cc e
 place_is Manager Storage e = cc e
 place_is Manager Manager e = refl
 
-target_answered : (p : Place) (targets : List Place) (answers : List Answer) → is_among p targets ≡ true → all_answered targets answers ≡ true → has_answered p answers ≡ true
+pub target_answered : (p : Place) (targets : List Place) (answers : List Answer) → is_among p targets ≡ true → all_answered targets answers ≡ true → has_answered p answers ≡ true
 target_answered p [] answers among all = cc among
 target_answered p (q ∷ targets) answers among all =
     let both = both_true (has_answered q answers) (all_answered targets answers) all in

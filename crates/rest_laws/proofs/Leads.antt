@@ -59,14 +59,14 @@ says_reply n f (FreesFile file) from told says = tt
 says_reply n f (Heals to what) from told says = absurd says
 
 -- WHAT STAYS while the operation is open
-record Stands (t : Track) (o : Order) (rest : List Mark) (now : Track) : Type 0 where
-  one : Open
-  current : now.current ≡ Some one
-  operation : one.operation ≡ o.operation
-  by : one.by ≡ o.by
-  plain : now.plain ≡ t.plain
-  owners : now.owners ≡ owners_with o t.owners
-  due : now.due ≡ rest
+pub record Stands (t : Track) (o : Order) (rest : List Mark) (now : Track) : Type 0 where
+  pub one : Open
+  pub current : now.current ≡ Some one
+  pub operation : one.operation ≡ o.operation
+  pub by : one.by ≡ o.by
+  pub plain : now.plain ≡ t.plain
+  pub owners : now.owners ≡ owners_with o t.owners
+  pub due : now.due ≡ rest
 
 module _ (t : Track) (o : Order) (rest : List Mark) where
   sent_stands : (now : Track) (m : Message) → now.healing ≡ None → Stands t o rest now → Stands t o rest (sent now m now.owed now.healing now.current)
@@ -108,10 +108,10 @@ module _ (t : Track) (o : Order) (rest : List Mark) where
       by Manager = issuer
 
   -- THE WAY from the first message on
-  record Way (now : Track) : Type 0 where
-    middle : Middle None now
-    healed : now.healing ≡ None
-    stands : Stands t o rest now
+  pub record Way (now : Track) : Type 0 where
+    pub middle : Middle None now
+    pub healed : now.healing ≡ None
+    pub stands : Stands t o rest now
 
   no_begin : (now : Track) (one : Open) → now.current ≡ Some one → BeginsGranted now now.owed now.current now.due
   no_begin now one is = subst (λ (c : Option Open). BeginsGranted now now.owed c now.due) (sym is) (by now.owed now.due)
@@ -121,7 +121,7 @@ module _ (t : Track) (o : Order) (rest : List Mark) where
       by [] (d ∷ due) = tt
       by (x ∷ owed) due = tt
 
-  goes : (now : Track) (e : Event) → May now e → IsOfMessages e → Way now → Way (after now e)
+  pub goes : (now : Track) (e : Event) → May now e → IsOfMessages e → Way now → Way (after now e)
   goes now (Send m) may of way =
       let next = events-keep now (Send m) may tt (no_begin now way.stands.one way.stands.current) way.healed way.middle in
       record { middle = next.0; healed = next.1; stands = sent_stands now m way.healed way.stands }
@@ -136,13 +136,13 @@ module _ (t : Track) (o : Order) (rest : List Mark) where
   goes now (Complete op) may of way = absurd of
   goes now (Out stream bytes) may of way = absurd of
 
-  goes_on : (now : Track) (events : List Event) → Legal now events → AllByRecursion IsOfMessages events → Way now → Way (run now events)
+  pub goes_on : (now : Track) (events : List Event) → Legal now events → AllByRecursion IsOfMessages events → Way now → Way (run now events)
   goes_on now [] legal all way = way
   goes_on now (e ∷ events) legal all way = goes_on (after now e) events legal.1 all.1 (goes now e legal.0 all.0 way)
 
   module _ (at_rest : AtRest t) (due : t.due ≡ Call o ∷ rest) (granted : Granted t o.by o.operation (owners_with o t.owners)) where
     -- the first message
-    sets_out : (m : Message) → May t (Send m) → Way (after t (Send m))
+    pub sets_out : (m : Message) → May t (Send m) → Way (after t (Send m))
     sets_out m may =
         let next = events-keep t (Send m) may tt (subst (λ (p : List Message × Option Open × List Mark). BeginsGranted t p.0 p.1 p.2) (λ i. (sym at_rest.owed i, sym at_rest.closed i, sym due i)) granted) at_rest.healed (rest-is-middle t at_rest) in
         record { middle = next.0; healed = next.1; stands = subst (Stands t o rest) (sym begun) (record { one = _; current = refl; operation = refl; by = refl; plain = refl; owners = refl; due = refl }) }
@@ -182,13 +182,13 @@ module _ (t : Track) (o : Order) (rest : List Mark) where
         })
 
     -- at rest nothing is complete, and nothing is delivered
-    nothing_done : (op : OpNo) → May t (Complete op) → ⊥
+    pub nothing_done : (op : OpNo) → May t (Complete op) → ⊥
     nothing_done op may = none (sym (λ i. done_or t.net (healing_move (at_rest.healed i)) (done_or t.net (at_rest.closed i) None)) ∙ may.complete)
       where
         none : None ≡ Some op → ⊥
         none e = cc e
 
-    nothing_delivered : (m : Message) → May t (Deliver m) → ⊥
+    pub nothing_delivered : (m : Message) → May t (Deliver m) → ⊥
     nothing_delivered m may = let waits : false ≡ true = sym (λ i. is_waiting (at_rest.healed i) (at_rest.closed i)) ∙ may.waiting in cc waits
 
     pub leads : (events : List Event) (op : OpNo) → Legal t (events ++ Complete op ∷ []) → AllByRecursion IsOfMessages events → LedBack t o rest (run t (events ++ Complete op ∷ []))

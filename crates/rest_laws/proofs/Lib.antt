@@ -33,3 +33,6 @@ pub mod Requests
 pub mod Comes
 pub mod Goes
 pub mod Leads
+pub mod OfComponents
+pub mod Emptied
+pub mod Dried

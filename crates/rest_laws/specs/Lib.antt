@@ -11,3 +11,5 @@ pub mod Completing
 pub mod Crashing
 pub mod KindsEnding
 pub mod GoingOn
+pub mod Components
+pub mod Logs

@@ -13,6 +13,8 @@ ghost use Rattle.rest_laws.specs.Delivering.{OldIsDropped, AnswerIsNoted, Reacti
 ghost use Rattle.rest_laws.specs.GoingOn.{AnswersAreTrue, EventsKeep, LeadsBack, ListsKeep};
 ghost use Rattle.rest_laws.specs.KindsEnding.{EveryKindEnds};
 ghost use Rattle.rest_laws.specs.Sending.{OwedIsSent, FirstIsSent};
+ghost use Rattle.rest_laws.specs.Components.{PlainIsOfComponents};
+ghost use Rattle.rest_laws.specs.Logs.{DrainsEmpty, EmptyLogsStay, LogsGrowByWrites};
 
 /// An entry that is put is found under its key.
 pub fn entries_are_found_where_put()
@@ -164,4 +166,24 @@ pub fn answers_say_what_is_so()
 /// completion; its effect on the plain map is all that is new.
 pub fn an_operation_leads_back_to_rest()
     ensures { LeadsBack }
+{}
+
+/// At rest the plain map is a function of what the components hold.
+pub fn the_plain_map_is_of_the_components()
+    ensures { PlainIsOfComponents }
+{}
+
+/// A memory's log grows by a write to it alone; all else leaves it or removes its oldest patches.
+pub fn logs_grow_by_writes()
+    ensures { LogsGrowByWrites }
+{}
+
+/// An operation that doesn't write leaves empty logs empty.
+pub fn empty_logs_stay_empty()
+    ensures { EmptyLogsStay }
+{}
+
+/// A drain leaves the log of its memory empty, whatever the log held.
+pub fn a_drain_leaves_its_log_empty()
+    ensures { DrainsEmpty }
 {}

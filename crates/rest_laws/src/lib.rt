@@ -12,6 +12,10 @@
 mod laws;
 
 pub use laws::{
+    a_drain_leaves_its_log_empty,
+    empty_logs_stay_empty,
+    logs_grow_by_writes,
+    the_plain_map_is_of_the_components,
     a_delivery_takes_one_out, an_operation_leads_back_to_rest, answers_are_noted_in_the_relation,
     answers_say_what_is_so,
     answers_to_nobody_are_dropped_in_the_relation, areas_are_those_set,
