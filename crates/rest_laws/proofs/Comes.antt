@@ -1,8 +1,7 @@
 -- A delivery with nothing lost, whichever operation is open and whoever gets the message.
-use Rattle.std.proofs.Common.{◌≡◌, ◌⊎◌, ◌+◌, ◌<◌, ◌==◌, ◌&&◌, ◌||◌, [], ◌∷◌, ◌++◌, ◌∙◌, ℕ, Bool, List, None, Option, Some, ap, append-nil, arith, cond, false, inl, inr, length, refl, slice_get, subst, sym, true}
-use Rattle.std.proofs.lemmas.Bool.{eq-eqb, eqb-true}
+use Rattle.std.proofs.Common.{◌≡◌, ◌+◌, ◌<◌, ◌==◌, ◌&&◌, [], ◌∷◌, ◌++◌, ◌∙◌, ℕ, Bool, List, None, Option, Some, ap, arith, cond, false, inl, refl, slice_get, subst, sym, true}
+use Rattle.std.proofs.lemmas.Bool.{eqb-true}
 use Rattle.std.specs.List.{AllByRecursion}
-use Rattle.std.specs.Prelude.{slice_set}
 use Rattle.lego_msg.specs.Deliveries.{MayDeliver, comes, issuer_gets, memory_handles, noted, reaction_of, reacts, stops, taken}
 use Rattle.lego_msg.specs.Operations.{is_write, patch_of}
 use Rattle.lego_msg.specs.Places.{is_issuer, memory}
@@ -14,9 +13,9 @@ use Rattle.lego_msg.specs.declared.message.Message.{Message}
 use Rattle.lego_msg.specs.declared.operation.Open.{Open}
 use Rattle.lego_msg.specs.declared.place.Place.{Place}
 use Rattle.lego_msg.specs.declared.place.Place.TheVariants.{Manager, Memory, Processor, Storage}
-use Rattle.lego_rest.specs.Answers.{all_pending, gave_answer, images_due, is_storage_true, is_writing}
-use Rattle.lego_rest.specs.Fits.{WaiterFits, changes_block}
-use Rattle.lego_rest.specs.Pending.{Goes, IsBatch, IsOfMove, IsPlace, Left, MayPend, OfBackground, OfMove, OfOpen, OfOperation, Pends, Returns}
+use Rattle.lego_rest.specs.Answers.{all_pending, gave_answer, images_due, is_storage_true}
+use Rattle.lego_rest.specs.Fits.{changes_block}
+use Rattle.lego_rest.specs.Pending.{Goes, IsBatch, IsOfMove, IsPlace, Left, MayPend, OfBackground, OfMove, OfOperation, Pends, Returns}
 use Rattle.lego_rest.specs.Rest.{Middle}
 use Rattle.rest_laws.proofs.Backing.{backup_gives}
 use Rattle.rest_laws.proofs.Delivered.{RowGives, given_keeps, left_of}
@@ -32,7 +31,6 @@ use Rattle.rest_laws.proofs.Truth.{and_true, both_true}
 use Rattle.rest_laws.proofs.kinds.EveryKind.{every_kind_rows}
 use Rattle.rest_laws.proofs.kinds.Kind.{KindRows}
 use Rattle.rest_laws.specs.Steps.{Moment, Shift}
-use Rattle.lego_msg.specs.declared.body.Body.TheVariants as body
 use Rattle.lego_msg.specs.declared.place.Place.TheVariants as place
 
 -- nothing is of a move where nothing heals

@@ -1,5 +1,5 @@
 -- A drain leaves the log of its memory empty: its answer is sent only where the log is.
-use Rattle.std.proofs.Common.{◌≡◌, ◌⊎◌, ◌+◌, ◌<◌, ◌==◌, ◌&&◌, ◌||◌, [], ◌∷◌, ◌++◌, ◌∙◌, ℕ, Bool, List, None, Option, Some, ap, append-nil, append_assoc, arith, cond, drop, false, inl, inr, length, map, refl, slice_get, subst, sym, true}
+use Rattle.std.proofs.Common.{◌≡◌, ◌⊎◌, ◌<◌, ◌==◌, ◌&&◌, ◌||◌, [], ◌∷◌, ◌++◌, ◌∙◌, ℕ, Bool, List, None, Option, Some, ap, append-nil, append_assoc, arith, cond, drop, false, inl, inr, length, map, refl, slice_get, subst, sym, true}
 use Rattle.std.proofs.lemmas.Bool.{eq-eqb, eqb-true, ne_eqb}
 use Rattle.std.proofs.lemmas.Bool.Decides.{eqb_tells}
 use Rattle.std.proofs.lemmas.List.Folds.{list_any-append}
@@ -11,13 +11,13 @@ use Rattle.lego_msg.proofs.Senders.{get_set, same_some}
 use Rattle.lego_msg.specs.Completions.{done_or}
 use Rattle.lego_msg.specs.Deliveries.{MayDeliver, answered, comes, issuer_gets, memory_handles, noted, noted_with, reaction_of, reacts, stops, taken}
 use Rattle.lego_msg.specs.Granted.{Granted}
-use Rattle.lego_msg.specs.Legal.{Legal, May}
+use Rattle.lego_msg.specs.Legal.{May}
 use Rattle.lego_msg.specs.Marks.{Call, Mark, Order}
 use Rattle.lego_msg.specs.Operations.{asks_of, is_write, messages_of, patch_of, targets_of}
 use Rattle.lego_msg.specs.Places.{is_among, is_issuer, memory, same_place}
-use Rattle.lego_msg.specs.Run.{after, run}
+use Rattle.lego_msg.specs.Run.{after}
 use Rattle.lego_msg.specs.Sends.{IsFirst, MayBegin, MaySend, begins, sent}
-use Rattle.lego_msg.specs.State.{Mem, Waiter}
+use Rattle.lego_msg.specs.State.{Mem}
 use Rattle.lego_msg.specs.Table.{answers, backup, batch_gone, batched, drained, handled, handled_body, stored}
 use Rattle.lego_msg.specs.Track.{Track, all_answered, has_answered, healing_move, is_complete, memory_count, opened}
 use Rattle.lego_msg.specs.declared.body.Body.{Body}
@@ -36,14 +36,13 @@ use Rattle.lego_rest.specs.Pending.{Among, AnAnswer, First, Goes, HandedOn, Hand
 use Rattle.lego_rest.specs.Rest.{AtRest, CurrentFits, Middle}
 use Rattle.rest_laws.proofs.Comes.{file_comes, row_comes}
 use Rattle.rest_laws.proofs.Delivered.{left_of, none_of}
-use Rattle.rest_laws.proofs.Emptied.{along, delivered_at, end_of_none, ended_mems, issuer_mems, logs-grow-by-writes, on_its_way, quiet, sent_mems}
+use Rattle.rest_laws.proofs.Emptied.{along, delivered_at, end_of_none, ended_mems, logs-grow-by-writes, on_its_way, quiet}
 use Rattle.rest_laws.proofs.Ended.{target_answered}
 use Rattle.rest_laws.proofs.Goes.{complete_one}
 use Rattle.rest_laws.proofs.kinds.Asking.{alone}
-use Rattle.rest_laws.proofs.Leads.{Stands, Way}
+use Rattle.rest_laws.proofs.Leads.{Way}
 use Rattle.rest_laws.proofs.Net.{any-taken}
 use Rattle.rest_laws.proofs.Noted.{place_sym}
-use Rattle.rest_laws.proofs.Opened.{first_from}
 use Rattle.rest_laws.proofs.Taken.{any_less, whole}
 use Rattle.rest_laws.proofs.Truth.{both_true}
 use Rattle.rest_laws.proofs.kinds.Logging.{by_rule, logging}

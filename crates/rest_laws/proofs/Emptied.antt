@@ -1,28 +1,25 @@
 -- Logs grow by the writes of lines alone; a drain leaves the log of its memory empty.
-use Rattle.std.proofs.Common.{◌≡◌, ◌⊎◌, ◌+◌, ◌<◌, ◌≤◌, ◌==◌, ◌&&◌, ◌||◌, [], ◌∷◌, ◌++◌, ◌∙◌, ℕ, Bool, List, None, Option, Some, ap, append-nil, arith, cond, drop, false, inl, inr, leb, length, ltb, map, not, refl, slice_get, subst, suc, sym, take, true, zero}
-use Rattle.std.proofs.lemmas.Bool.{eq-eqb, eqb-true}
+use Rattle.std.proofs.Common.{◌≡◌, ◌+◌, ◌==◌, [], ◌∷◌, ◌++◌, ◌∙◌, ℕ, Bool, List, None, Option, Some, ap, cond, drop, false, inl, inr, length, map, refl, slice_get, subst, suc, sym, take, true, zero}
 use Rattle.std.proofs.lemmas.Bool.Decides.{eqb_tells}
-use Rattle.std.proofs.lemmas.List.Folds.{list_any-append}
 use Rattle.std.proofs.lemmas.List.{take-append-drop}
-use Rattle.std.specs.List.{AllByRecursion, list_any}
+use Rattle.std.specs.List.{AllByRecursion}
 use Rattle.std.specs.Prelude.{slice_set}
-use Rattle.lego_base.specs.declared.ids.MemId.{MemId}
 use Rattle.lego_base.specs.declared.ids.OpNo.{OpNo}
 use Rattle.lego_base.specs.declared.records.Patch.{Patch}
 use Rattle.lego_msg.proofs.Lists.{Legal-back, Legal-front, run-append}
 use Rattle.lego_msg.specs.Completions.{completed, finished}
-use Rattle.lego_msg.specs.Deliveries.{MayDeliver, answered, comes, issuer_gets, memory_handles, noted, noted_with, reaction_of, reacts, stops, taken}
+use Rattle.lego_msg.specs.Deliveries.{MayDeliver, comes, issuer_gets, memory_handles, noted, noted_with, reaction_of, reacts, stops, taken}
 use Rattle.lego_msg.specs.Granted.{Granted}
 use Rattle.lego_msg.specs.Legal.{Legal, May}
 use Rattle.lego_msg.specs.Marks.{Call, Mark, Order, Show}
 use Rattle.lego_msg.specs.Operations.{asks_of, each_from, is_write, messages_of, patch_of}
-use Rattle.lego_msg.specs.Places.{is_issuer, memory, same_place}
+use Rattle.lego_msg.specs.Places.{is_issuer, memory}
 use Rattle.lego_msg.specs.Plain.{Plain}
 use Rattle.lego_msg.specs.Run.{after, run}
 use Rattle.lego_msg.specs.Sends.{begins, move_begins, sent}
-use Rattle.lego_msg.specs.State.{Mem, Waiter}
-use Rattle.lego_msg.specs.Table.{answers, backup, batch_gone, batched, block_in, drained, handled, handled_body, read_block, stored}
-use Rattle.lego_msg.specs.Track.{Track, healing_move, memory_count, opened}
+use Rattle.lego_msg.specs.State.{Mem}
+use Rattle.lego_msg.specs.Table.{batch_gone, batched, block_in, drained, handled, handled_body, read_block}
+use Rattle.lego_msg.specs.Track.{Track, healing_move, memory_count}
 use Rattle.lego_msg.specs.declared.body.Body.{Body}
 use Rattle.lego_msg.specs.declared.body.Body.TheVariants.{AreasAre, BackedUp, Backup, BlockCut, BlockGet, BlockIs, BlockPut, CopySpace, Done, Drain, Drained, DropSpace, FileBytes, FileCut, FileFree, FileRead, FileSize, FileWrite, Find, GetAreas, ImageCopy, ImageDrop, ImageFree, Images, Line, LogFull, LogWrite, Meta, NameAll, NameCut, NameGet, NameIs, NameMake, Names, OwnerIs, PullImages, PullMeta, PullPages, PushImages, PushMeta, Read, Refused, ResetImages, SetAreas, SetHome, SizeIs, Unmap, Write, Wrote}
 use Rattle.lego_msg.specs.declared.event.Event.{Event}
@@ -42,14 +39,13 @@ use Rattle.lego_rest.specs.Fits.{OpenFits}
 use Rattle.lego_rest.specs.Pending.{AnAnswer, First, Goes, HandedOn, HandsOn, IsBatch, Left, MayPend, OfBackground, OfMove, OfOpen, OfOperation, Pends, Reaction, Reacts, Returns}
 use Rattle.lego_rest.specs.Rest.{AtRest, CurrentFits, Middle}
 use Rattle.rest_laws.proofs.Goes.{called_of}
-use Rattle.rest_laws.proofs.Leads.{Stands, Way, goes, goes_on, nothing_delivered, nothing_done, sets_out}
+use Rattle.rest_laws.proofs.Leads.{Way, goes, goes_on, nothing_delivered, nothing_done, sets_out}
 use Rattle.rest_laws.proofs.Opened.{all_among}
 use Rattle.rest_laws.proofs.Taken.{all_taken, whole}
 use Rattle.rest_laws.specs.GoingOn.{IsOfMessages, owners_with}
 use Rattle.rest_laws.specs.KindsEnding.{IsCalled}
 use Rattle.rest_laws.proofs.kinds.Logging.{by_rule, logging}
-use Rattle.rest_laws.specs.Logs.{DrainsEmpty, EmptyLogsStay, IsEmptyAt, IsEndOf, LogsGrowByWrites}
-use Rattle.lego_msg.specs.declared.place.Place.TheVariants as place
+use Rattle.rest_laws.specs.Logs.{EmptyLogsStay, IsEmptyAt, IsEndOf, LogsGrowByWrites}
 
 same_log : (s : Mem) → IsEndOf s.log s.log
 same_log s = ([], refl)

@@ -1,21 +1,21 @@
 -- Every event with nothing lost, and legal lists without a crash.
-use Rattle.std.proofs.Common.{◌≡◌, ◌⊎◌, ◌+◌, ◌<◌, ◌≤◌, ◌==◌, ◌&&◌, ◌||◌, [], ◌∷◌, ◌++◌, ◌∙◌, ℕ, Bool, List, None, Option, Some, ap, arith, cond, drop, false, inl, inr, not, refl, slice_get, subst, sym, true}
+use Rattle.std.proofs.Common.{◌≡◌, ◌==◌, ◌&&◌, [], ◌∷◌, ◌++◌, ◌∙◌, ℕ, Bool, List, None, Option, Some, ap, arith, cond, drop, false, not, refl, slice_get, subst, sym, true}
 use Rattle.std.specs.List.{AllByRecursion}
 use Rattle.lego_base.specs.declared.ids.OpNo.{OpNo}
 use Rattle.lego_base.specs.declared.records.HomeEntry.{HomeEntry}
-use Rattle.lego_msg.specs.Completions.{MayComplete, completed, done_or, finished, first_done}
+use Rattle.lego_msg.specs.Completions.{MayComplete, completed, done_or, finished}
 use Rattle.lego_msg.specs.Deliveries.{MayDeliver, comes, is_sent, is_waiting, issuer_gets, memory_handles, noted, noted_with, reaction_of, reacts, stops, taken}
-use Rattle.lego_msg.specs.Granted.{Granted, OpFits}
-use Rattle.lego_msg.specs.Legal.{Legal, May}
-use Rattle.lego_msg.specs.Marks.{Call, Mark, Order, Show}
-use Rattle.lego_msg.specs.Operations.{asks_of, patch_of}
+use Rattle.lego_msg.specs.Granted.{OpFits}
+use Rattle.lego_msg.specs.Legal.{Legal}
+use Rattle.lego_msg.specs.Marks.{Call, Mark, Show}
+use Rattle.lego_msg.specs.Operations.{patch_of}
 use Rattle.lego_msg.specs.Places.{secondary_of}
 use Rattle.lego_msg.specs.Plain.{Plain}
 use Rattle.lego_msg.specs.Run.{after, run}
-use Rattle.lego_msg.specs.Sends.{FitsCaches, IsFirst, MayBegin, MaySend, begins, sent}
+use Rattle.lego_msg.specs.Sends.{IsFirst, MayBegin, MaySend, begins, sent}
 use Rattle.lego_msg.specs.State.{Mem}
 use Rattle.lego_msg.specs.ShownEvents.{accessed, filled_with, turned, with_line}
-use Rattle.lego_msg.specs.Track.{Caches, Quiet, Track, is_any_done, is_calm, healing_move, is_complete, is_crash_due, memory_count, opened}
+use Rattle.lego_msg.specs.Track.{Caches, Track, is_any_done, is_calm, healing_move, is_complete, is_crash_due, memory_count, opened}
 use Rattle.lego_msg.specs.declared.clock.Clock.{Clock}
 use Rattle.lego_msg.specs.declared.event.Event.{Event}
 use Rattle.lego_msg.specs.declared.event.Event.TheVariants.{Access, Complete, Crash, Deliver, Drop, Fill, Out, Send, Turn}
@@ -31,15 +31,14 @@ use Rattle.lego_msg.specs.declared.place.Place.TheVariants.{Manager, Memory, Pro
 use Rattle.lego_rest.specs.Answers.{second_due}
 use Rattle.lego_rest.specs.Fits.{IsRequest}
 use Rattle.lego_rest.specs.Parts.{Areas, Cell, Home, Page}
-use Rattle.lego_rest.specs.Rest.{AtRest, CurrentFits, Middle}
+use Rattle.lego_rest.specs.Rest.{CurrentFits, Middle}
 use Rattle.rest_laws.proofs.Begun.{operation-begins}
 use Rattle.rest_laws.proofs.Comes.{delivery_keeps}
 use Rattle.rest_laws.proofs.Ended.{operation-ends}
 use Rattle.rest_laws.proofs.Ends.{every-kind-ends}
 use Rattle.rest_laws.proofs.Requests.{requests}
 use Rattle.rest_laws.proofs.Sends.{first-is-sent, owed-is-sent}
-use Rattle.rest_laws.proofs.Truth.{both_true}
-use Rattle.rest_laws.specs.GoingOn.{BeginsGranted, EventsKeep, GrantedAlong, IsGranted, IsNoCrash, ListsKeep, owners_with}
+use Rattle.rest_laws.specs.GoingOn.{BeginsGranted, EventsKeep, GrantedAlong, ListsKeep, owners_with}
 use Rattle.rest_laws.specs.KindsEnding.{IsCalled}
 
 -- WHERE NOTHING IS OPEN what is shown changes nothing

@@ -2,7 +2,6 @@
 use Rattle.std.proofs.Common.{◌≡◌, ◌==◌, [], ◌∷◌, ◌++◌, ◌∙◌, ℕ, Bool, List, None, Option, Some, ap, cond, drop, false, refl, slice_get, subst, sym, true}
 use Rattle.std.specs.List.{AllByRecursion}
 use Rattle.lego_base.specs.declared.ids.OpNo.{OpNo}
-use Rattle.lego_base.specs.declared.records.HomeEntry.{HomeEntry}
 use Rattle.lego_msg.proofs.Lists.{Legal-back, Legal-front, run-append}
 use Rattle.lego_msg.specs.Completions.{completed, done_or, finished, owners_after}
 use Rattle.lego_msg.specs.Deliveries.{answered, comes, is_waiting, issuer_gets, memory_handles, noted, noted_with, reaction_of, reacts, stops, taken}
@@ -13,7 +12,7 @@ use Rattle.lego_msg.specs.Operations.{patch_of}
 use Rattle.lego_msg.specs.Plain.{Plain, effect}
 use Rattle.lego_msg.specs.Replies.{IsReply}
 use Rattle.lego_msg.specs.Run.{after, run}
-use Rattle.lego_msg.specs.Sends.{MaySend, begins, sent}
+use Rattle.lego_msg.specs.Sends.{begins, sent}
 use Rattle.lego_msg.specs.State.{Mem}
 use Rattle.lego_msg.specs.Track.{Track, healing_move, memory_count}
 use Rattle.lego_msg.specs.declared.body.Body.{Body}
@@ -21,17 +20,15 @@ use Rattle.lego_msg.specs.declared.event.Event.{Event}
 use Rattle.lego_msg.specs.declared.event.Event.TheVariants.{Access, Complete, Crash, Deliver, Drop, Fill, Out, Send, Turn}
 use Rattle.lego_msg.specs.declared.healing.Healing.{Healing}
 use Rattle.lego_msg.specs.declared.message.Message.{Message}
-use Rattle.lego_msg.specs.declared.operation.Answer.{Answer}
 use Rattle.lego_msg.specs.declared.operation.Open.{Open}
 use Rattle.lego_msg.specs.declared.operation.Operation.{Operation}
 use Rattle.lego_msg.specs.declared.operation.Operation.TheVariants.{AsksAreas, AsksSize, Copies, CutsFile, CutsName, Drains, Drops, Finds, FreesFile, GetsName, Heals, ListsNames, MakesName, Reads, ReadsFile, SetsAreas, SetsHome, Unmaps, Writes, WritesFile}
 use Rattle.lego_msg.specs.declared.place.Place.{Place}
 use Rattle.lego_msg.specs.declared.place.Place.TheVariants.{Manager, Memory, Processor, Storage}
 use Rattle.lego_rest.proofs.Resting.{middle-is-rest, rest-is-middle}
-use Rattle.lego_rest.specs.Fits.{AnswerFits}
 use Rattle.lego_rest.specs.Pending.{Says}
 use Rattle.lego_rest.specs.Rest.{AtRest, CurrentFits, Middle}
-use Rattle.rest_laws.proofs.Goes.{complete_one, events-keep}
+use Rattle.rest_laws.proofs.Goes.{events-keep}
 use Rattle.rest_laws.proofs.Opened.{every}
 use Rattle.rest_laws.specs.GoingOn.{AnswersAreTrue, BeginsGranted, IsOfMessages, LeadsBack, LedBack, StandsOpen, owners_with}
 

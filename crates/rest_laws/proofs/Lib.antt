@@ -36,3 +36,4 @@ pub mod Leads
 pub mod OfComponents
 pub mod Emptied
 pub mod Dried
+pub mod Formed

@@ -1,18 +1,14 @@
 -- The plain map at rest is a function of what the components hold.
-use Rattle.std.proofs.Common.{◌≡◌, ◌+◌, ◌/◌, ◌%◌, ◌<◌, ◌≤◌, ◌==◌, [], ◌∙◌, ℕ, Bool, List, None, Option, Some, ap, arith, cond, refl, slice_get, subst, sym, true}
+use Rattle.std.proofs.Common.{◌≡◌, ◌/◌, ◌<◌, ◌==◌, [], ◌∙◌, ℕ, Bool, List, None, Option, Some, ap, arith, cond, refl, slice_get, sym, true}
 use Rattle.std.proofs.Math.Nat.{mod-lt}
 use Rattle.std.proofs.lemmas.Bool.{eq-eqb}
 use Rattle.lego_base.specs.declared.ids.MemId.{MemId}
-use Rattle.lego_base.specs.declared.records.Area.{Area}
 use Rattle.lego_base.specs.declared.records.HomeEntry.{HomeEntry}
-use Rattle.lego_base.specs.declared.shape.Shape.{Shape}
-use Rattle.lego_msg.specs.Files.{Files}
 use Rattle.lego_msg.specs.Maps.{owner_of}
 use Rattle.lego_msg.specs.Places.{home_of}
-use Rattle.lego_msg.specs.Plain.{Plain}
 use Rattle.lego_msg.specs.State.{Disk, Mem}
 use Rattle.lego_msg.specs.Track.{Track, memory_count}
-use Rattle.lego_rest.specs.Parts.{Areas, Cell, Held, Home, Page, main_part, nothing_at, old_share, owns, plain_at, share, sides_of}
+use Rattle.lego_rest.specs.Parts.{Areas, Cell, Home, Page, share}
 use Rattle.lego_rest.specs.Rest.{AtRest}
 use Rattle.rest_laws.proofs.Ended.{get_within}
 use Rattle.rest_laws.proofs.kinds.Asking.{owner_owns}

@@ -1,5 +1,5 @@
 -- A receipt reaches its memory: the batch goes from the log, and drains that wait are answered where the log is empty then.
-use Rattle.std.proofs.Common.{◌≡◌, ◌⊎◌, ◌+◌, ◌-◌, ◌/◌, ◌<◌, ◌≤◌, ◌==◌, ◌&&◌, ◌||◌, [], ◌∷◌, ◌++◌, ◌∙◌, ℕ, Bool, List, None, Option, Some, ap, append-nil, arith, cond, drop, eqb, false, inl, inr, length, map, refl, slice_get, subst, suc, sym, take, true, zero}
+use Rattle.std.proofs.Common.{◌≡◌, ◌⊎◌, ◌-◌, ◌/◌, ◌<◌, ◌==◌, ◌&&◌, ◌||◌, [], ◌∷◌, ◌++◌, ◌∙◌, ℕ, Bool, List, None, Option, Some, ap, append-nil, arith, cond, drop, false, inl, inr, length, map, refl, slice_get, subst, suc, sym, take, true, zero}
 use Rattle.std.proofs.lemmas.Bool.{eq-eqb, eqb-true}
 use Rattle.std.proofs.lemmas.Bool.Decides.{eqb_tells}
 use Rattle.std.proofs.lemmas.List.Elements.{filter-append}
@@ -7,9 +7,9 @@ use Rattle.std.proofs.lemmas.List.{length-drop, take-append-drop}
 use Rattle.std.specs.List.{AllByRecursion, list_any}
 use Rattle.lego_base.specs.declared.records.Patch.{Patch}
 use Rattle.lego_msg.specs.Deliveries.{MayDeliver, taken}
-use Rattle.lego_msg.specs.Granted.{IsClear, PatchFits, asks_clear}
+use Rattle.lego_msg.specs.Granted.{PatchFits, asks_clear}
 use Rattle.lego_msg.specs.Maps.{page_in, overlaid}
-use Rattle.lego_msg.specs.Operations.{is_write, patch_of, targets_of}
+use Rattle.lego_msg.specs.Operations.{patch_of, targets_of}
 use Rattle.lego_msg.specs.Places.{is_among, is_issuer, memory, same_place, secondary_of}
 use Rattle.lego_msg.specs.Plain.{Plain, effect}
 use Rattle.lego_msg.specs.State.{Block, Mem, Waiter}
@@ -20,13 +20,13 @@ use Rattle.lego_msg.specs.declared.operation.Open.{Open}
 use Rattle.lego_msg.specs.declared.operation.Operation.{Operation}
 use Rattle.lego_msg.specs.declared.operation.Operation.TheVariants.{AsksAreas, AsksSize, Copies, CutsFile, CutsName, Drains, Drops, Finds, FreesFile, GetsName, Heals, ListsNames, MakesName, Reads, ReadsFile, SetsAreas, SetsHome, Unmaps, Writes, WritesFile}
 use Rattle.lego_msg.specs.declared.place.Place.{Place}
-use Rattle.lego_rest.specs.Answers.{all_pending, answers_to, is_answer_from}
-use Rattle.lego_rest.specs.Fits.{BatchFits, BlockFits, HasBatch, LogFits, MemFits, OpenFits, WaiterFits, WaitsFor, background, batch_message, changes_block, is_background, over, receipt}
-use Rattle.lego_rest.specs.Parts.{Areas, Cell, Home, IsEither, Page, main_part, new_share, old_share, owns, second_part, share, sides_of}
-use Rattle.lego_rest.specs.Pending.{AnAnswer, Goes, IsAway, IsNot, IsPlace, IsUp, Left, MayPend, OfBackground, OfMove, OfOperation, Says}
+use Rattle.lego_rest.specs.Answers.{all_pending, answers_to}
+use Rattle.lego_rest.specs.Fits.{BatchFits, HasBatch, LogFits, MemFits, OpenFits, WaiterFits, WaitsFor, background, batch_message, changes_block, is_background, over, receipt}
+use Rattle.lego_rest.specs.Parts.{Areas, Cell, Home, Page, main_part, new_share, old_share, owns, second_part, share, sides_of}
+use Rattle.lego_rest.specs.Pending.{AnAnswer, Goes, IsAway, IsNot, IsPlace, IsUp, Left, MayPend, OfBackground, OfOperation, Says}
 use Rattle.lego_rest.specs.Rest.{MemHolds, Middle}
 use Rattle.rest_laws.proofs.Backing.{not_none, only_one}
-use Rattle.rest_laws.proofs.Delivered.{Given, RowGives, answers_for, left_of, of_first, speaks_of}
+use Rattle.rest_laws.proofs.Delivered.{RowGives, answers_for, left_of, of_first}
 use Rattle.rest_laws.proofs.Lookup.{page-overlaid}
 use Rattle.rest_laws.proofs.Net.{background-taken}
 use Rattle.rest_laws.proofs.Opened.{every, issuer_there, numbered_is_no_batch}
@@ -34,9 +34,7 @@ use Rattle.rest_laws.proofs.Pages.{over_append}
 use Rattle.rest_laws.proofs.Taken.{all_taken, changes_less, whole}
 use Rattle.rest_laws.proofs.kinds.Asking.{alone}
 use Rattle.rest_laws.proofs.kinds.Cells.{agreed}
-use Rattle.rest_laws.proofs.kinds.Filing.{issuer_up}
-use Rattle.rest_laws.proofs.kinds.FilesRead.{issuer_away}
-use Rattle.rest_laws.proofs.kinds.Logging.{Carries, by_rule, logging, nothing_more, other_background, rule_fits}
+use Rattle.rest_laws.proofs.kinds.Logging.{by_rule, logging, nothing_more, other_background, rule_fits}
 use Rattle.rest_laws.proofs.kinds.Twice.{first_two}
 use Rattle.lego_msg.specs.declared.body.Body.TheVariants as body
 use Rattle.lego_msg.specs.declared.place.Place.TheVariants as place
@@ -79,8 +77,8 @@ all_dropped P (suc n) [] all = tt
 all_dropped P (suc n) (x ∷ xs) all = all_dropped P n xs all.1
 
 module _ (lost : Option ℕ) (t : Track) (o : Open) (m : Message) (k : ℕ) (s : Mem) (may : MayDeliver (record t { current = Some o }) m) (middle : Middle lost (record t { current = Some o })) (number : m.op.0 ≡ 0) (up : IsUp lost k) (from : m.from ≡ place.Storage) (to : m.to ≡ memory k) (what : m.body ≡ body.BackedUp) (at : slice_get t.mems k ≡ Some s)
-  -- a drain of the move is this memory's
-  (of_move : (w : Waiter) → WaiterFits (memory_count t.shape) k t.next (Some o) (healing_move t.healing) w → (IsNot (healing_move t.healing) w.op → MayPend lost (memory_count t.shape) t.plain (Some o) (healing_move t.healing) t.next (drained s.id w)) → MayPend lost (memory_count t.shape) t.plain (Some o) (healing_move t.healing) t.next (drained s.id w)) where
+    -- a drain of the move is this memory's
+    (of_move : (w : Waiter) → WaiterFits (memory_count t.shape) k t.next (Some o) (healing_move t.healing) w → (IsNot (healing_move t.healing) w.op → MayPend lost (memory_count t.shape) t.plain (Some o) (healing_move t.healing) t.next (drained s.id w)) → MayPend lost (memory_count t.shape) t.plain (Some o) (healing_move t.healing) t.next (drained s.id w)) where
   pends : MayPend lost (memory_count t.shape) t.plain (Some o) (healing_move t.healing) t.next m
   pends = (all_taken (MayPend lost (memory_count t.shape) t.plain (Some o) (healing_move t.healing) t.next) (all_pending t) (all_pending (taken (record t { current = Some o }))) m (whole (record t { current = Some o }) m may) middle.pending).0
 
@@ -295,11 +293,14 @@ module _ (lost : Option ℕ) (t : Track) (o : Open) (m : Message) (k : ℕ) (s :
               })
           under false more =
               by_rule (λ (p : Mem × List Message). BatchFits (left_of t ++ p.1) t.disk.images p.0 → RowGives lost t o k s p.0 p.1) (logging s rest 0 s.drains) []
-              (λ due batch. gives (length rest) s.drains (backup (logging s rest 0 s.drains) ∷ []) waiters (record {
-                from = subst (IsPlace (memory_count t.shape)) (sym id) below;
-                to = tt;
-                kind = OfBackground (record { number = refl; of = k; up = up; batch = Goes id refl rest refl });
-              }, tt) (id, tt)
+              (λ due batch. gives (length rest) s.drains (backup (logging s rest 0 s.drains) ∷ []) waiters (
+                record {
+                  from = subst (IsPlace (memory_count t.shape)) (sym id) below;
+                  to = tt;
+                  kind = OfBackground (record { number = refl; of = k; up = up; batch = Goes id refl rest refl });
+                },
+                tt,
+              ) (id, tt)
               (λ j other. filter-append (is_background j) (left_of t) (backup (logging s rest 0 s.drains) ∷ []) ∙ ap (λ (b : Bool). background j (left_of t) ++ cond b (backup (logging s rest 0 s.drains) ∷ []) []) (other_background (logging s rest 0 s.drains) k was.id j other) ∙ append-nil (background j (left_of t)))
               (λ b. refl) (λ now. absurd (no_answer now)) batch)
               (λ waits batch. gives 0 s.drains [] waiters tt tt (λ j other. ap (background j) (append-nil (left_of t))) (λ b. refl) (λ now. cc now) batch)

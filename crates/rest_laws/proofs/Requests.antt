@@ -1,5 +1,5 @@
 -- The first messages of every kind of operation that is granted go to memories that are there and to storage.
-use Rattle.std.proofs.Common.{◌≡◌, ◌+◌, ◌%◌, ◌<◌, ◌≤◌, [], ◌∷◌, ℕ, List, Some, arith, false, refl, suc, zero}
+use Rattle.std.proofs.Common.{◌≡◌, ◌+◌, ◌<◌, ℕ, List, Some, arith, false, refl, suc, zero}
 use Rattle.std.proofs.Math.Nat.{mod-lt}
 use Rattle.std.specs.List.{AllByRecursion}
 use Rattle.lego_base.specs.declared.ids.MemId.{MemId}
@@ -12,7 +12,6 @@ use Rattle.lego_msg.specs.Places.{cache_of, home_of, memory, secondary_of}
 use Rattle.lego_msg.specs.Plain.{Plain}
 use Rattle.lego_msg.specs.State.{Block}
 use Rattle.lego_msg.specs.declared.body.Body.{Body}
-use Rattle.lego_msg.specs.declared.message.Message.{Message}
 use Rattle.lego_msg.specs.declared.operation.Operation.{Operation}
 use Rattle.lego_msg.specs.declared.operation.Operation.TheVariants.{AsksAreas, AsksSize, Copies, CutsFile, CutsName, Drains, Drops, Finds, FreesFile, GetsName, Heals, ListsNames, MakesName, Reads, ReadsFile, SetsAreas, SetsHome, Unmaps, Writes, WritesFile}
 use Rattle.lego_msg.specs.declared.place.Place.{Place}

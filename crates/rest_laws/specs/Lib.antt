@@ -13,3 +13,4 @@ pub mod KindsEnding
 pub mod GoingOn
 pub mod Components
 pub mod Logs
+pub mod Forms

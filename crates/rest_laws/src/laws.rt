@@ -15,6 +15,7 @@ ghost use Rattle.rest_laws.specs.KindsEnding.{EveryKindEnds};
 ghost use Rattle.rest_laws.specs.Sending.{OwedIsSent, FirstIsSent};
 ghost use Rattle.rest_laws.specs.Components.{PlainIsOfComponents};
 ghost use Rattle.rest_laws.specs.Logs.{DrainsEmpty, EmptyLogsStay, LogsGrowByWrites};
+ghost use Rattle.rest_laws.specs.Forms.{MessagesAreInForm};
 
 /// An entry that is put is found under its key.
 pub fn entries_are_found_where_put()
@@ -186,4 +187,9 @@ pub fn empty_logs_stay_empty()
 /// A drain leaves the log of its memory empty, whatever the log held.
 pub fn a_drain_leaves_its_log_empty()
     ensures { DrainsEmpty }
+{}
+
+/// Each message on its way to a memory or to storage is in form for it, where nothing is lost.
+pub fn messages_are_in_form()
+    ensures { MessagesAreInForm }
 {}

@@ -1,10 +1,10 @@
 -- What is found once regions are copied for a child: in them what the parent has, elsewhere what was there.
-use Rattle.std.proofs.Common.{◌≡◌, ◌⊎◌, ◌+◌, ◌/◌, ◌<◌, ◌==◌, ◌&&◌, ◌||◌, [], ◌∷◌, ◌++◌, ◌∙◌, ℕ, Bool, List, None, Option, Some, ap, arith, cond, eqb, false, inl, inr, length, map, not, refl, subst, sym, true}
+use Rattle.std.proofs.Common.{◌≡◌, ◌/◌, ◌==◌, ◌&&◌, ◌||◌, [], ◌∷◌, ◌∙◌, ℕ, Bool, List, None, Option, Some, ap, arith, cond, false, inl, inr, length, map, refl, subst, sym, true}
 use Rattle.std.proofs.lemmas.Bool.{eq-eqb, eqb-true}
 use Rattle.std.specs.List.{AllByRecursion}
 use Rattle.keyed_list.proofs.Listed.{Rises-put, above_rest, find-put}
 use Rattle.keyed_list.proofs.Order.{below_is, same_is}
-use Rattle.lego_base.specs.Keys.{IsAbove, Key, Rises, find, is_below, is_page_of, key_at, put, put_all, same_key, those, without}
+use Rattle.lego_base.specs.Keys.{IsAbove, Key, Rises, find, is_page_of, key_at, put, put_all, same_key, those, without}
 use Rattle.lego_base.specs.declared.ids.Pid.{Pid}
 use Rattle.lego_base.specs.declared.ids.RegionNo.{RegionNo}
 use Rattle.lego_base.specs.declared.records.Area.{Area}

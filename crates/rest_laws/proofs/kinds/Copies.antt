@@ -1,5 +1,5 @@
 -- Operations that copy regions for a child: areas at the owner and its secondary, pages at the owner, images at storage.
-use Rattle.std.proofs.Common.{◌≡◌, ◌⊎◌, ◌+◌, ◌/◌, ◌<◌, ◌==◌, ◌&&◌, ◌||◌, [], ◌∷◌, ◌∙◌, ℕ, Bool, List, None, Option, Some, ap, cond, false, inl, inr, leb, length, refl, slice_get, subst, sym, true}
+use Rattle.std.proofs.Common.{◌≡◌, ◌⊎◌, ◌/◌, ◌<◌, ◌==◌, ◌&&◌, ◌||◌, [], ◌∷◌, ◌∙◌, ℕ, Bool, List, None, Option, Some, ap, cond, false, inl, inr, leb, length, refl, slice_get, subst, sym, true}
 use Rattle.std.proofs.lemmas.Bool.{eq-eqb, eqb-true, leb-true}
 use Rattle.std.specs.List.{AllByRecursion}
 use Rattle.lego_base.specs.declared.ids.MemId.{MemId}
@@ -7,10 +7,9 @@ use Rattle.lego_base.specs.declared.ids.Pid.{Pid}
 use Rattle.lego_base.specs.declared.ids.RegionNo.{RegionNo}
 use Rattle.lego_base.specs.declared.records.Area.{Area}
 use Rattle.lego_base.specs.declared.records.HomeEntry.{HomeEntry}
-use Rattle.lego_base.specs.declared.records.PageImage.{PageImage}
 use Rattle.lego_base.specs.declared.records.Patch.{Patch}
 use Rattle.lego_msg.specs.Granted.{CopyFits, is_region_in}
-use Rattle.lego_msg.specs.Maps.{areas_at, copied_areas, copied_pages, overlaid, owner_of, page_in}
+use Rattle.lego_msg.specs.Maps.{areas_at, copied_areas, copied_pages, owner_of, page_in}
 use Rattle.lego_msg.specs.Places.{home_of, is_among, memory, secondary_of}
 use Rattle.lego_msg.specs.Plain.{Plain, with_region_of, with_regions_of}
 use Rattle.lego_msg.specs.State.{Kept, Mem}
@@ -26,7 +25,7 @@ use Rattle.lego_rest.specs.Pending.{IsUp}
 use Rattle.rest_laws.proofs.Copying.{same_copied}
 use Rattle.rest_laws.proofs.Delivered.{RowGives, speaks_of}
 use Rattle.rest_laws.proofs.Lookup.{page-overlaid}
-use Rattle.rest_laws.proofs.Meeting.{Met, met_fits, met_main, met_open, met_second}
+use Rattle.rest_laws.proofs.Meeting.{met_fits, met_main, met_open, met_second}
 use Rattle.rest_laws.proofs.Noted.{eqb_sym}
 use Rattle.rest_laws.proofs.Pages.{untouched}
 use Rattle.rest_laws.proofs.Replied.{all_new, keeping, none_changes, replied}

@@ -1,6 +1,6 @@
 -- The rows of every kind of operation.
-use Rattle.std.proofs.Common.{◌<◌, ◌≤◌, ℕ, Option, Some, arith}
-use Rattle.lego_msg.specs.Track.{Track, memory_count}
+use Rattle.std.proofs.Common.{ℕ, Option, Some, arith}
+use Rattle.lego_msg.specs.Track.{Track}
 use Rattle.lego_msg.specs.declared.operation.Open.{Open}
 use Rattle.lego_msg.specs.declared.operation.Operation.{Operation}
 use Rattle.lego_msg.specs.declared.operation.Operation.TheVariants.{AsksAreas, AsksSize, Copies, CutsFile, CutsName, Drains, Drops, Finds, FreesFile, GetsName, Heals, ListsNames, MakesName, Reads, ReadsFile, SetsAreas, SetsHome, Unmaps, Writes, WritesFile}
