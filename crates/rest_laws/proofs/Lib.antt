@@ -37,3 +37,5 @@ pub mod OfComponents
 pub mod Emptied
 pub mod Dried
 pub mod Formed
+pub mod Following
+pub mod Forward

@@ -14,3 +14,4 @@ pub mod GoingOn
 pub mod Components
 pub mod Logs
 pub mod Forms
+pub mod Forward

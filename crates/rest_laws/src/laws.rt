@@ -16,6 +16,7 @@ ghost use Rattle.rest_laws.specs.Sending.{OwedIsSent, FirstIsSent};
 ghost use Rattle.rest_laws.specs.Components.{PlainIsOfComponents};
 ghost use Rattle.rest_laws.specs.Logs.{DrainsEmpty, EmptyLogsStay, LogsGrowByWrites};
 ghost use Rattle.rest_laws.specs.Forms.{MessagesAreInForm};
+ghost use Rattle.rest_laws.specs.Forward.{SomethingComes};
 
 /// An entry that is put is found under its key.
 pub fn entries_are_found_where_put()
@@ -192,4 +193,9 @@ pub fn a_drain_leaves_its_log_empty()
 /// Each message on its way to a memory or to storage is in form for it, where nothing is lost.
 pub fn messages_are_in_form()
     ensures { MessagesAreInForm }
+{}
+
+/// An operation that isn't complete has something on its way, once all of it is sent, where nothing is lost or refused.
+pub fn something_comes()
+    ensures { SomethingComes }
 {}

@@ -8,7 +8,7 @@
 //! operation is open and whether or not a memory is lost; `specs/Sending`, `specs/Beginning`, `specs/Delivering`,
 //! `specs/Completing` and `specs/Crashing` say it of events, `specs/KindsEnding` what each kind owes at its completion.
 //! `specs/GoingOn` says it of every event and of whole lists with nothing lost, and what an operation leads to;
-//! `specs/Forms` that what is on its way is in form, `specs/Logs` what becomes of logs, `specs/Components` that the plain
+//! `specs/Forms` that what is on its way is in form, `specs/Forward` that something is, `specs/Logs` what becomes of logs, `specs/Components` that the plain
 //! map is of the components. `proofs/kinds` has the rows of each kind of operation.
 #![tactic(auto)]
 
@@ -26,7 +26,7 @@ pub use laws::{
     operations_begin_in_the_relation, operations_end_in_the_relation,
     overlaid_pages_are_patched_in_order, patches_change_their_page, questions_of_the_others_stay,
     reactions_are_owed_in_the_relation, rows_of_memories_keep_the_relation,
-    rows_of_storage_keep_the_relation, steps_of_messages_keep_the_relation,
+    rows_of_storage_keep_the_relation, something_comes, steps_of_messages_keep_the_relation,
     the_plain_map_is_of_the_components, what_is_owed_is_sent_in_the_relation,
     what_is_set_becomes_the_new, what_moves_holds_old_or_new,
 };
