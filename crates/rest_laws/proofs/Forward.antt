@@ -679,12 +679,12 @@ module _ (t : Track) (o : Order) (rest : List Mark) where
   step : (now : Track) (e : Event) → May now e → IsOfMessages e → Way t o rest now → Awaited now → Awaited (after now e)
   step now (Send x) may of way awaited = send_awaits now x may way.healed awaited
   step now (Deliver x) may of way awaited = deliver_awaits now x may way awaited
-  step now (Turn number pid) may of way awaited = absurd of
+  step now (Turn turn pid) may of way awaited = absurd of
   step now (Access cpu pid address kind bytes) may of way awaited = absurd of
   step now (Fill pid address bytes) may of way awaited = absurd of
   step now (Drop cpu pid line) may of way awaited = absurd of
-  step now (Crash number inc) may of way awaited = absurd of
-  step now (Complete number) may of way awaited = absurd of
+  step now (Crash memory_ inc) may of way awaited = absurd of
+  step now (Complete op_) may of way awaited = absurd of
   step now (Out stream bytes) may of way awaited = absurd of
 
   awaits_on : (now : Track) (events : List Event) → Legal now events → AllByRecursion IsOfMessages events → Way t o rest now → Awaited now → Way t o rest (run now events) × Awaited (run now events)

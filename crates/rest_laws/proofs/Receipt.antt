@@ -270,11 +270,11 @@ module _ (lost : Option ℕ) (t : Track) (o : Open) (m : Message) (k : ℕ) (s :
   answer_still (w ∷ drains) all now = by (w.op == o.number.0) (same_place (memory s.id) (memory k)) (same_place w.place o.by) (answers_to (patch_of o.operation) body.Drained) refl refl now (answer_still drains all.1)
     where
       by : (a b c d : Bool) → (w.op == o.number.0) ≡ a → answers_to (patch_of o.operation) body.Drained ≡ d → ((a && b && c && d) || answers_for o k (map (drained s.id) drains)) ≡ true → (answers_for o k (map (drained s.id) drains) ≡ true → effect o.operation t.plain ≡ t.plain) → effect o.operation t.plain ≡ t.plain
-      by true b c true ea ed now rest = (awaits (memory_count t.shape) k t.plain o.operation (all.0.of_open (eqb-true w.op o.number.0 ea)).1).still ed
-      by true true true false ea ed now rest = rest now
-      by true true false false ea ed now rest = rest now
-      by true false c false ea ed now rest = rest now
-      by false b c d ea ed now rest = rest now
+      by true b c true ea ed now others = (awaits (memory_count t.shape) k t.plain o.operation (all.0.of_open (eqb-true w.op o.number.0 ea)).1).still ed
+      by true true true false ea ed now others = others now
+      by true true false false ea ed now others = others now
+      by true false c false ea ed now others = others now
+      by false b c d ea ed now others = others now
 
   pub receipt_gives : RowGives lost t o k s (backed_up_row s).0 (backed_up_row s).1
   receipt_gives = by (s.out == 0) refl

@@ -84,7 +84,7 @@ module _ (lost : Option ℕ) (t : Track) (o : Open) (file : FileNo) (block off l
       of_open (Reaction from how) = absurd how
       of_open (HandedOn (inl how)) = ap (changes_block b) how.2
       of_open (HandedOn (inr how)) = ap (changes_block b) how.2
-      of_open (AnAnswer to target says) = ap (changes_block b) says
+      of_open (AnAnswer to of says) = ap (changes_block b) says
 
       by : Pends lost (memory_count t.shape) t.plain (Some reading) (healing_move t.healing) t.next x → changes_block b x.body ≡ false
       by (OfOperation of) = of_open of.2
@@ -191,7 +191,7 @@ module _ (lost : Option ℕ) (t : Track) (o : Open) (file : FileNo) (block off l
       memories k s m (Reaction from how) = absurd how
       memories k s m (HandedOn (inl how)) = λ met. absurd (storage_apart k (sym met.to ∙ how.1))
       memories k s m (HandedOn (inr how)) = λ met. subst (λ (x : Message). MemoryGives lost t reading k s x) (sym (same_message m block_message how.0 how.1 met.number how.2)) ((here lost t reading block_message cache refl arrived).0 k s) met
-      memories k s m (AnAnswer to target says) = λ met. absurd (no_answer_here lost t reading k s m met to)
+      memories k s m (AnAnswer to of says) = λ met. absurd (no_answer_here lost t reading k s m met to)
 
       storage : (m : Message) → OfOpen (memory_count t.shape) t.plain m reading → StorageGives lost t reading m
       storage m (First (inl e)) = λ reaches. absurd (storage_apart cache (ap (λ (x : Message). x.to) (sym e) ∙ reaches.to))
@@ -199,4 +199,4 @@ module _ (lost : Option ℕ) (t : Track) (o : Open) (file : FileNo) (block off l
       storage m (Reaction from how) = absurd how
       storage m (HandedOn (inl how)) = λ reaches. subst (StorageGives lost t reading) (sym (same_message m get_message how.0 how.1 reaches.number how.2)) got reaches
       storage m (HandedOn (inr how)) = λ reaches. absurd (storage_apart cache (sym how.1 ∙ reaches.to))
-      storage m (AnAnswer to target says) = λ reaches. absurd (no_answer_there lost t reading m reaches to)
+      storage m (AnAnswer to of says) = λ reaches. absurd (no_answer_there lost t reading m reaches to)
