@@ -39,3 +39,6 @@ pub mod Dried
 pub mod Formed
 pub mod Following
 pub mod Forward
+pub mod Refusing
+pub mod Exceeding
+pub mod Caused

@@ -15,3 +15,4 @@ pub mod Components
 pub mod Logs
 pub mod Forms
 pub mod Forward
+pub mod Causes

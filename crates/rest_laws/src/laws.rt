@@ -17,6 +17,7 @@ ghost use Rattle.rest_laws.specs.Components.{PlainIsOfComponents};
 ghost use Rattle.rest_laws.specs.Logs.{DrainsEmpty, EmptyLogsStay, LogsGrowByWrites};
 ghost use Rattle.rest_laws.specs.Forms.{MessagesAreInForm};
 ghost use Rattle.rest_laws.specs.Forward.{SomethingComes};
+ghost use Rattle.rest_laws.specs.Causes.{RefusalsHaveCauses};
 
 /// An entry that is put is found under its key.
 pub fn entries_are_found_where_put()
@@ -198,4 +199,10 @@ pub fn messages_are_in_form()
 /// An operation that isn't complete has something on its way, once all of it is sent, where nothing is lost or refused.
 pub fn something_comes()
     ensures { SomethingComes }
+{}
+
+/// A refusal that stops the run is on its way only where a memory would hold more pages than it has frames, or the files would
+/// need more blocks than storage has.
+pub fn refusals_have_causes()
+    ensures { RefusalsHaveCauses }
 {}

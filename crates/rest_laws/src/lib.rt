@@ -25,7 +25,7 @@ pub use laws::{
     memories_guard_their_own, messages_are_in_form, no_two_memories_share_a_secondary,
     operations_begin_in_the_relation, operations_end_in_the_relation,
     overlaid_pages_are_patched_in_order, patches_change_their_page, questions_of_the_others_stay,
-    reactions_are_owed_in_the_relation, rows_of_memories_keep_the_relation,
+    reactions_are_owed_in_the_relation, refusals_have_causes, rows_of_memories_keep_the_relation,
     rows_of_storage_keep_the_relation, something_comes, steps_of_messages_keep_the_relation,
     the_plain_map_is_of_the_components, what_is_owed_is_sent_in_the_relation,
     what_is_set_becomes_the_new, what_moves_holds_old_or_new,

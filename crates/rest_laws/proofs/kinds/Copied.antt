@@ -118,7 +118,7 @@ module _ (parent child : ℕ) (apart : (child == parent) ≡ false) where
       steps_of (r ∷ regions) f p v = steps_of regions (with_region_of parent child r.0 f) p v
 
 -- an entry of a rising list is the only one with its key
-only_one : (x : PageImage) (pages : List PageImage) (k : Key) → IsAbove page_key x pages → Rises page_key pages → same_key (page_key x) k ≡ true → find page_key k pages ≡ None
+pub only_one : (x : PageImage) (pages : List PageImage) (k : Key) → IsAbove page_key x pages → Rises page_key pages → same_key (page_key x) k ≡ true → find page_key k pages ≡ None
 only_one x [] k above rise same = refl
 only_one x (y ∷ pages) k above rise same = by (same_key (page_key y) k) refl (only_one x pages k (above_rest page_key x y pages above rise.0) rise.1 same)
   where

@@ -131,7 +131,7 @@ module _ (lost : Option ℕ) (t : Track) (o : Open) (parent child : Pid) (region
         there_ (inl e) = inl e
         there_ (inr e) = inr (e ∙ ap (λ (l : List Area). cond (owns t.owners j p q) l []) (plain_areas_in parent.0 child.0 apart regions t.plain p q))
 
-    pages_new : (held : ℕ → ℕ → Option (List ℕ)) → ((p v : ℕ) → (held p v ≡ cond (owns t.owners owner.0 p (v / 512)) (t.plain.page p v) None) ⊎ (held p v ≡ cond (owns t.owners owner.0 p (v / 512)) (after.page p v) None)) → (p v : ℕ) → cond (child.0 == p && is_region_in (v / 512) regions) (held parent.0 v) (held p v) ≡ cond (owns t.owners owner.0 p (v / 512)) (after.page p v) None
+    pub pages_new : (held : ℕ → ℕ → Option (List ℕ)) → ((p v : ℕ) → (held p v ≡ cond (owns t.owners owner.0 p (v / 512)) (t.plain.page p v) None) ⊎ (held p v ≡ cond (owns t.owners owner.0 p (v / 512)) (after.page p v) None)) → (p v : ℕ) → cond (child.0 == p && is_region_in (v / 512) regions) (held parent.0 v) (held p v) ≡ cond (owns t.owners owner.0 p (v / 512)) (after.page p v) None
     pages_new held either p v =
         copied_cell (child.0 == p && is_region_in (v / 512) regions) (owns t.owners owner.0 p (v / 512)) (owns t.owners owner.0 parent.0 (v / 512)) (held parent.0 v) (held p v) (t.plain.page parent.0 v) (t.plain.page p v) None (λ this. (owned owner.0 refl p (v / 512) this).0) (λ this. (owned owner.0 refl p (v / 512) this).1)
         (agreed (held parent.0 v) (cond (owns t.owners owner.0 parent.0 (v / 512)) (after.page parent.0 v) None) (cond (owns t.owners owner.0 parent.0 (v / 512)) (t.plain.page parent.0 v) None) (ap (λ (l : Option (List ℕ)). cond (owns t.owners owner.0 parent.0 (v / 512)) l None) (parent_pages v)) (turned (either parent.0 v)))

@@ -42,11 +42,11 @@ changed_twice change twice n files there =
     ap (λ (bytes : List ℕ). with_file_bytes (with_file_bytes files n (change (file_bytes files n))) n (change bytes)) (with_same n (change (file_bytes files n)) files there)
     ∙ with_twice n (change (file_bytes files n)) (change (change (file_bytes files n))) files ∙ ap (with_file_bytes files n) (twice (file_bytes files n))
 
-abbrev changed : (List ℕ → List ℕ) → ℕ → Files → Files
+abbrev pub changed : (List ℕ → List ℕ) → ℕ → Files → Files
 changed change n f = record f { files = with_file_bytes f.files n (change (file_bytes f.files n)) }
 
 -- the files that storage has become the new ones, whether they were the old or the new
-changed_new : (change : List ℕ → List ℕ) → ((bytes : List ℕ) → change (change bytes) ≡ change bytes) → (n : ℕ) (held old : Files) → is_file old.files n ≡ true → (held ≡ old) ⊎ (held ≡ changed change n old) → changed change n held ≡ changed change n old
+pub changed_new : (change : List ℕ → List ℕ) → ((bytes : List ℕ) → change (change bytes) ≡ change bytes) → (n : ℕ) (held old : Files) → is_file old.files n ≡ true → (held ≡ old) ⊎ (held ≡ changed change n old) → changed change n held ≡ changed change n old
 changed_new change twice n held old there (inl e) = ap (changed change n) e
 changed_new change twice n held old there (inr e) = ap (changed change n) e ∙ ap (λ (files : List File). record old { files = files }) (changed_twice change twice n old.files there)
 

@@ -70,7 +70,7 @@ module _ (lost : Option ℕ) (t : Track) (o : Open) (origin : Origin) (patch : P
     other j differ c = same_patched (memory_count t.shape) t.owners t.plain patch owner j fits.owned differ c
 
     -- the page's region is owned by whom the operation names
-    owned : (j pid vpn : ℕ) → owner.0 ≡ j → (patch.pid.0 == pid && patch.vpn.0 == vpn) ≡ true → owns t.owners j pid (vpn / 512) ≡ true
+    pub owned : (j pid vpn : ℕ) → owner.0 ≡ j → (patch.pid.0 == pid && patch.vpn.0 == vpn) ≡ true → owns t.owners j pid (vpn / 512) ≡ true
     owned j pid vpn is this =
         let same = both_true (patch.pid.0 == pid) (patch.vpn.0 == vpn) this in
         ap (λ (q : ℕ). owns t.owners q pid (vpn / 512)) (sym is)
