@@ -356,4 +356,4 @@ module _ (t : Track) (o : Order) (rest : List Mark) where
         front (x ∷ net) out all = (all.0, front net out all.1)
 
 pub refusals-have-causes : RefusalsHaveCauses
-refusals-have-causes t o rest m events at_rest due granted legal all = have_causes t o rest at_rest due granted m events legal all
+refusals-have-causes t o rest m events is legal all = have_causes t o rest is.rests is.due is.granted m events legal all

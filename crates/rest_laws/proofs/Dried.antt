@@ -364,8 +364,8 @@ module _ (t : Track) (o : Order) (rest : List Mark) (m : MemId) (drains : o.oper
         never_told told = let both : false ≡ true = sym none_told ∙ told in cc both
 
 pub drains-empty : DrainsEmpty
-drains-empty t o rest events op m at_rest due granted legal all drains =
-    let end = along t o rest (IsDry m.0) at_rest due granted (base t o rest m drains at_rest due granted) (step t o rest m drains) events op legal all in
+drains-empty t o rest events op m is legal all drains =
+    let end = along t o rest (IsDry m.0) is.rests is.due is.granted (base t o rest m drains is.rests is.due is.granted) (step t o rest m drains) events op legal all in
     subst (λ (x : Track). IsEmptyAt x m.0) (sym end.4) (λ s at. emptied end.0 end.1 end.2 end.3 s (ap (λ (mems : List Mem). slice_get mems m.0) (sym (ended_mems end.0 op end.1.healed)) ∙ at))
   where
     emptied : (last : Track) → Way t o rest last → IsDry m.0 last → May last (Complete op) → IsEmptyAt last m.0

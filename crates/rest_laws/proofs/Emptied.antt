@@ -340,6 +340,6 @@ ended_mems now op healed = ap (λ (h : Option Healing). (completed now op.0 h).m
     by (Some o) = refl
 
 pub empty-logs-stay : EmptyLogsStay
-empty-logs-stay t o rest events op k at_rest due granted legal all none empty =
-    let end = along t o rest (λ (now : Track). IsEmptyAt now k) at_rest due granted (λ m may s at. empty s (ap (λ (mems : List Mem). slice_get mems k) (sym (sent_mems t m t.owed t.healing t.current)) ∙ at)) (empty_goes t o rest k none) events op legal all in
+empty-logs-stay t o rest events op k is legal all none empty =
+    let end = along t o rest (λ (now : Track). IsEmptyAt now k) is.rests is.due is.granted (λ m may s at. empty s (ap (λ (mems : List Mem). slice_get mems k) (sym (sent_mems t m t.owed t.healing t.current)) ∙ at)) (empty_goes t o rest k none) events op legal all in
     subst (λ (x : Track). IsEmptyAt x k) (sym end.4) (λ s at. end.2 s (ap (λ (mems : List Mem). slice_get mems k) (sym (ended_mems end.0 op end.1.healed)) ∙ at))

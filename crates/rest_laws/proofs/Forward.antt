@@ -767,4 +767,4 @@ module _ (t : Track) (o : Order) (rest : List Mark) where
         comes_on (run t (Send m ∷ events)) on.0 on.1 under none
 
 pub something-comes : SomethingComes
-something-comes t o rest m events at_rest due granted legal all under none = something t o rest at_rest due granted m events legal all under none
+something-comes t o rest m events is legal all under none = something t o rest is.rests is.due is.granted m events legal all under none

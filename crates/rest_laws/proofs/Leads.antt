@@ -204,7 +204,7 @@ module _ (t : Track) (o : Order) (rest : List Mark) where
     leads (Out stream bytes ∷ events) op legal all = absurd all.0
 
 pub answers-are-true : AnswersAreTrue
-answers-are-true t o rest m events at_rest due granted legal all = answers_true t o rest at_rest due granted m events legal all
+answers-are-true t o rest m events is legal all = answers_true t o rest is.rests is.due is.granted m events legal all
 
 pub leads-back : LeadsBack
-leads-back t o rest events op at_rest due granted legal all = leads t o rest at_rest due granted events op legal all
+leads-back t o rest events op is legal all = leads t o rest is.rests is.due is.granted events op legal all

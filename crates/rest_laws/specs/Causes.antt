@@ -7,10 +7,9 @@ use Rattle.lego_base.specs.declared.records.HomeEntry.{HomeEntry}
 use Rattle.lego_base.specs.declared.records.PageImage.{PageImage}
 use Rattle.lego_msg.specs.Deliveries.{stops}
 use Rattle.lego_msg.specs.Files.{is_room}
-use Rattle.lego_msg.specs.Granted.{Granted}
 use Rattle.lego_msg.specs.Legal.{Legal}
 use Rattle.lego_msg.specs.Maps.{page_key}
-use Rattle.lego_msg.specs.Marks.{Call, Mark, Order}
+use Rattle.lego_msg.specs.Marks.{Mark, Order}
 use Rattle.lego_msg.specs.Places.{memory}
 use Rattle.lego_msg.specs.Plain.{Plain, effect, touched}
 use Rattle.lego_msg.specs.Run.{run}
@@ -20,8 +19,7 @@ use Rattle.lego_msg.specs.declared.event.Event.{Event}
 use Rattle.lego_msg.specs.declared.event.Event.TheVariants.{Send}
 use Rattle.lego_msg.specs.declared.message.Message.{Message}
 use Rattle.lego_rest.specs.Parts.{owns}
-use Rattle.lego_rest.specs.Rest.{AtRest}
-use Rattle.rest_laws.specs.GoingOn.{IsOfMessages, owners_with}
+use Rattle.rest_laws.specs.GoingOn.{IsDue, IsOfMessages, owners_with}
 use Rattle.lego_msg.specs.declared.place.Place.TheVariants as place
 
 -- of a plain map: more pages that memory k owns are there than it has frames
@@ -45,6 +43,6 @@ HasCause t o x = IsMemoryFull t (owners_with o t.owners) (effect o.operation t.p
     ⊎ ((x.from ≡ place.Storage) × (is_room t.disk.files (effect o.operation t.plain).files.files ≡ false))
 
 abbrev pub RefusalsHaveCauses : Type 0
-RefusalsHaveCauses = (t : Track) (o : Order) (rest : List Mark) (m : Message) (events : List Event) → AtRest t → t.due ≡ Call o ∷ rest → Granted t o.by o.operation (owners_with o t.owners) →
-    Legal t (Send m ∷ events) → AllByRecursion IsOfMessages events →
+RefusalsHaveCauses = (t : Track) (o : Order) (rest : List Mark) (m : Message) (events : List Event) →
+    IsDue t o rest → Legal t (Send m ∷ events) → AllByRecursion IsOfMessages events →
     AllByRecursion (λ (x : Message). stops x.body ≡ true → HasCause t o x) (run t (Send m ∷ events)).net

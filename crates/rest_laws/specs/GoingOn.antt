@@ -51,7 +51,11 @@ abbrev pub ListsKeep : Type 0
 ListsKeep = (t : Track) (events : List Event) → AtRest t → Legal t events → GrantedAlong t events →
     Middle None (run t events) × ((run t events).healing ≡ None)
 
--- AN OPERATION: sends and deliveries from its first message on, and then its completion
+-- AN OPERATION: it is due at rest, and granted; then come sends and deliveries from its first message on, and its completion
+pub record IsDue (t : Track) (o : Order) (rest : List Mark) : Type 0 where
+  pub rests : AtRest t
+  pub due : t.due ≡ Call o ∷ rest
+  pub granted : Granted t o.by o.operation (owners_with o t.owners)
 
 abbrev pub IsOfMessages : Event → Type 0
 IsOfMessages (Send m) = Unit {0}
@@ -70,8 +74,8 @@ pub record StandsOpen (t : Track) (o : Order) (rest : List Mark) (now : Track) :
   pub answers : AllByRecursion (λ (a : Answer). IsReply t.plain o.operation a.body) one.answers
 
 abbrev pub AnswersAreTrue : Type 0
-AnswersAreTrue = (t : Track) (o : Order) (rest : List Mark) (m : Message) (events : List Event) → AtRest t → t.due ≡ Call o ∷ rest → Granted t o.by o.operation (owners_with o t.owners) →
-    Legal t (Send m ∷ events) → AllByRecursion IsOfMessages events → StandsOpen t o rest (run t (Send m ∷ events))
+AnswersAreTrue = (t : Track) (o : Order) (rest : List Mark) (m : Message) (events : List Event) →
+    IsDue t o rest → Legal t (Send m ∷ events) → AllByRecursion IsOfMessages events → StandsOpen t o rest (run t (Send m ∷ events))
 
 -- and once it is complete: all is at rest again, and its effect on the plain map is all that is new
 pub record LedBack (t : Track) (o : Order) (rest : List Mark) (now : Track) : Type 0 where
@@ -81,5 +85,5 @@ pub record LedBack (t : Track) (o : Order) (rest : List Mark) (now : Track) : Ty
   pub due : now.due ≡ rest
 
 abbrev pub LeadsBack : Type 0
-LeadsBack = (t : Track) (o : Order) (rest : List Mark) (events : List Event) (op : OpNo) → AtRest t → t.due ≡ Call o ∷ rest → Granted t o.by o.operation (owners_with o t.owners) →
-    Legal t (events ++ Complete op ∷ []) → AllByRecursion IsOfMessages events → LedBack t o rest (run t (events ++ Complete op ∷ []))
+LeadsBack = (t : Track) (o : Order) (rest : List Mark) (events : List Event) (op : OpNo) →
+    IsDue t o rest → Legal t (events ++ Complete op ∷ []) → AllByRecursion IsOfMessages events → LedBack t o rest (run t (events ++ Complete op ∷ []))

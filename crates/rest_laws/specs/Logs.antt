@@ -4,9 +4,8 @@ use Rattle.std.specs.Prelude.{◌≡◌, [], ◌∷◌, ◌++◌, ℕ, List, Som
 use Rattle.lego_base.specs.declared.ids.MemId.{MemId}
 use Rattle.lego_base.specs.declared.ids.OpNo.{OpNo}
 use Rattle.lego_base.specs.declared.records.Patch.{Patch}
-use Rattle.lego_msg.specs.Granted.{Granted}
 use Rattle.lego_msg.specs.Legal.{Legal}
-use Rattle.lego_msg.specs.Marks.{Call, Mark, Order}
+use Rattle.lego_msg.specs.Marks.{Mark, Order}
 use Rattle.lego_msg.specs.Operations.{is_write}
 use Rattle.lego_msg.specs.Run.{run}
 use Rattle.lego_msg.specs.State.{Mem}
@@ -17,8 +16,7 @@ use Rattle.lego_msg.specs.declared.event.Event.{Event}
 use Rattle.lego_msg.specs.declared.event.Event.TheVariants.{Complete}
 use Rattle.lego_msg.specs.declared.message.Message.{Message}
 use Rattle.lego_msg.specs.declared.operation.Operation.TheVariants.{Drains}
-use Rattle.lego_rest.specs.Rest.{AtRest}
-use Rattle.rest_laws.specs.GoingOn.{IsOfMessages, owners_with}
+use Rattle.rest_laws.specs.GoingOn.{IsDue, IsOfMessages}
 
 -- a log is an end of another one: some of its oldest patches are gone
 abbrev pub IsEndOf : List Patch → List Patch → Type 0
@@ -34,12 +32,12 @@ IsEmptyAt t k = (s : Mem) → slice_get t.mems k ≡ Some s → s.log ≡ []
 
 -- An operation that doesn't write leaves empty logs empty.
 abbrev pub EmptyLogsStay : Type 0
-EmptyLogsStay = (t : Track) (o : Order) (rest : List Mark) (events : List Event) (op : OpNo) (k : ℕ) → AtRest t → t.due ≡ Call o ∷ rest → Granted t o.by o.operation (owners_with o t.owners) →
-    Legal t (events ++ Complete op ∷ []) → AllByRecursion IsOfMessages events → is_write o.operation ≡ false →
+EmptyLogsStay = (t : Track) (o : Order) (rest : List Mark) (events : List Event) (op : OpNo) (k : ℕ) →
+    IsDue t o rest → Legal t (events ++ Complete op ∷ []) → AllByRecursion IsOfMessages events → is_write o.operation ≡ false →
     IsEmptyAt t k → IsEmptyAt (run t (events ++ Complete op ∷ [])) k
 
 -- A drain leaves the log of its memory empty, whatever it held.
 abbrev pub DrainsEmpty : Type 0
-DrainsEmpty = (t : Track) (o : Order) (rest : List Mark) (events : List Event) (op : OpNo) (m : MemId) → AtRest t → t.due ≡ Call o ∷ rest → Granted t o.by o.operation (owners_with o t.owners) →
-    Legal t (events ++ Complete op ∷ []) → AllByRecursion IsOfMessages events → o.operation ≡ Drains m →
+DrainsEmpty = (t : Track) (o : Order) (rest : List Mark) (events : List Event) (op : OpNo) (m : MemId) →
+    IsDue t o rest → Legal t (events ++ Complete op ∷ []) → AllByRecursion IsOfMessages events → o.operation ≡ Drains m →
     IsEmptyAt (run t (events ++ Complete op ∷ [])) m.0

@@ -8,8 +8,9 @@
 //! operation is open and whether or not a memory is lost; `specs/Sending`, `specs/Beginning`, `specs/Delivering`,
 //! `specs/Completing` and `specs/Crashing` say it of events, `specs/KindsEnding` what each kind owes at its completion.
 //! `specs/GoingOn` says it of every event and of whole lists with nothing lost, and what an operation leads to;
-//! `specs/Forms` that what is on its way is in form, `specs/Forward` that something is, `specs/Logs` what becomes of logs, `specs/Components` that the plain
-//! map is of the components. `proofs/kinds` has the rows of each kind of operation.
+//! `specs/Forms` that what is on its way is in form, `specs/Forward` that something is, `specs/Causes` why it refuses,
+//! `specs/Logs` what becomes of logs, `specs/Components` that the plain map is of the components. `proofs/kinds` has the
+//! rows of each kind of operation.
 #![tactic(auto)]
 
 mod laws;
