@@ -24,7 +24,7 @@ use Rattle.lego_msg.specs.declared.message.Message.{Message}
 use Rattle.lego_msg.specs.declared.operation.Open.{Open}
 use Rattle.lego_msg.specs.declared.operation.Operation.{Operation}
 use Rattle.lego_msg.specs.declared.operation.Operation.TheVariants.{AsksAreas, AsksSize, Copies, CutsFile, CutsName, Drains, Drops, Finds, FreesFile, GetsName, Heals, ListsNames, MakesName, Reads, ReadsFile, SetsAreas, SetsHome, Unmaps, Writes, WritesFile}
-use Rattle.lego_rest.proofs.Resting.{rest-is-middle}
+use Rattle.lego_rest.proofs.Resting.{middle-is-rest, rest-is-middle}
 use Rattle.lego_msg.specs.declared.body.Body.{Body}
 use Rattle.lego_msg.specs.declared.place.Place.{Place}
 use Rattle.lego_msg.specs.declared.place.Place.TheVariants.{Manager, Memory, Processor, Storage}
@@ -38,7 +38,7 @@ use Rattle.rest_laws.proofs.Ended.{operation-ends}
 use Rattle.rest_laws.proofs.Ends.{every-kind-ends}
 use Rattle.rest_laws.proofs.Requests.{requests}
 use Rattle.rest_laws.proofs.Sends.{first-is-sent, owed-is-sent}
-use Rattle.rest_laws.specs.GoingOn.{BeginsGranted, EventsKeep, GrantedAlong, ListsKeep, owners_with}
+use Rattle.rest_laws.specs.GoingOn.{BeginsGranted, EventsKeep, GrantedAlong, ListsEndAtRest, ListsKeep, owners_with}
 use Rattle.rest_laws.specs.KindsEnding.{IsCalled}
 
 -- WHERE NOTHING IS OPEN what is shown changes nothing
@@ -217,3 +217,8 @@ lists_from t (e ∷ events) healed middle legal granted = let next = events-keep
 
 pub lists-keep : ListsKeep
 lists-keep t events rest legal granted = lists_from t events rest.healed (rest-is-middle t rest) legal granted
+
+pub lists-end-at-rest : ListsEndAtRest
+lists-end-at-rest t events rest legal granted closed goes =
+    let ends = lists-keep t events rest legal granted in
+    middle-is-rest (run t events) closed ends.1 goes ends.0

@@ -1,6 +1,6 @@
 -- Where nothing is lost: every event keeps the relation, and an operation leads from rest back to rest.
 use Rattle.std.specs.List.{AllByRecursion}
-use Rattle.std.specs.Prelude.{◌≡◌, [], ◌∷◌, ◌++◌, List, None, Option, Some}
+use Rattle.std.specs.Prelude.{◌≡◌, [], ◌∷◌, ◌++◌, List, None, Option, Some, false}
 use Rattle.lego_base.specs.Keys.{put_all}
 use Rattle.lego_base.specs.declared.ids.OpNo.{OpNo}
 use Rattle.lego_base.specs.declared.records.HomeEntry.{HomeEntry}
@@ -50,6 +50,11 @@ GrantedAlong t (e ∷ events) = IsNoCrash e × IsGranted t e × GrantedAlong (af
 abbrev pub ListsKeep : Type 0
 ListsKeep = (t : Track) (events : List Event) → AtRest t → Legal t events → GrantedAlong t events →
     Middle None (run t events) × ((run t events).healing ≡ None)
+
+-- Where nothing is open at its end and nothing was refused, all is at rest again.
+abbrev pub ListsEndAtRest : Type 0
+ListsEndAtRest = (t : Track) (events : List Event) → AtRest t → Legal t events → GrantedAlong t events →
+    (run t events).current ≡ None → (run t events).stopped ≡ false → AtRest (run t events)
 
 -- AN OPERATION: it is due at rest, and granted; then come sends and deliveries from its first message on, and its completion
 pub record IsDue (t : Track) (o : Order) (rest : List Mark) : Type 0 where

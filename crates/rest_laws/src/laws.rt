@@ -10,7 +10,7 @@ ghost use Rattle.rest_laws.specs.Beginning.{OperationBegins};
 ghost use Rattle.rest_laws.specs.Completing.{OperationEnds};
 ghost use Rattle.rest_laws.specs.Crashing.{CrashBegins};
 ghost use Rattle.rest_laws.specs.Delivering.{OldIsDropped, AnswerIsNoted, ReactionIsOwed};
-ghost use Rattle.rest_laws.specs.GoingOn.{AnswersAreTrue, EventsKeep, LeadsBack, ListsKeep};
+ghost use Rattle.rest_laws.specs.GoingOn.{AnswersAreTrue, EventsKeep, LeadsBack, ListsEndAtRest, ListsKeep};
 ghost use Rattle.rest_laws.specs.KindsEnding.{EveryKindEnds};
 ghost use Rattle.rest_laws.specs.Sending.{OwedIsSent, FirstIsSent};
 ghost use Rattle.rest_laws.specs.Components.{PlainIsOfComponents};
@@ -205,4 +205,9 @@ pub fn something_comes()
 /// need more blocks than storage has.
 pub fn refusals_have_causes()
     ensures { RefusalsHaveCauses }
+{}
+
+/// Such a list ends at rest where nothing is open then and nothing was refused.
+pub fn lists_end_at_rest()
+    ensures { ListsEndAtRest }
 {}
