@@ -85,9 +85,10 @@ asks_clear other pid vpn = false
 abbrev pub IsClear : Operation → List Patch → Type 0
 IsClear operation log = AllByRecursion (λ (p : Patch). asks_clear operation p.pid.0 p.vpn.0 ≡ false) log
 
--- A drain is of a memory that is there.
+-- A drain is of a memory that is there, and so is a copy, of however few regions.
 abbrev pub IsThere : ℕ → Operation → Type 0
 IsThere n (Drains m) = m.0 < n
+IsThere n (Copies parent child regions owner) = owner.0 < n
 IsThere n other = Unit {0}
 
 -- An operation is granted where the table of owners becomes `owners` with it: only regions without an owner get one.

@@ -1,35 +1,32 @@
 -- Batches and their receipts, whatever operation is open.
-use Rattle.std.proofs.Common.{◌≡◌, ◌⊎◌, ◌+◌, ◌/◌, ◌<◌, ◌≤◌, ◌==◌, ◌&&◌, ◌||◌, [], ◌∷◌, ◌++◌, ◌∙◌, ℕ, Bool, List, None, Option, Some, ap, append-nil, arith, cond, drop, eqb, false, inl, inr, length, map, not, refl, slice_get, subst, suc, sym, take, true, zero}
-use Rattle.std.proofs.lemmas.Bool.{eq-eqb, eqb-false, eqb-true}
+use Rattle.std.proofs.Common.{◌≡◌, ◌⊎◌, ◌/◌, ◌<◌, ◌==◌, ◌&&◌, ◌||◌, [], ◌∷◌, ◌++◌, ◌∙◌, ℕ, Bool, List, None, Option, Some, ap, append-nil, arith, cond, drop, eqb, false, inl, inr, length, not, refl, slice_get, subst, sym, take, true}
+use Rattle.std.proofs.lemmas.Bool.{eq-eqb, eqb-true}
 use Rattle.std.proofs.lemmas.Bool.Decides.{eqb_tells}
 use Rattle.std.proofs.lemmas.List.Elements.{filter-append}
-use Rattle.std.proofs.lemmas.List.Folds.{list_any-append}
-use Rattle.std.proofs.lemmas.List.{length-drop, take-append-drop}
+use Rattle.std.proofs.lemmas.List.{take-append-drop}
 use Rattle.std.specs.List.{AllByRecursion, list_any}
 use Rattle.lego_base.specs.declared.ids.MemId.{MemId}
 use Rattle.lego_base.specs.declared.records.PageImage.{PageImage}
 use Rattle.lego_base.specs.declared.records.Patch.{Patch}
 use Rattle.lego_msg.specs.Deliveries.{MayDeliver, taken}
-use Rattle.lego_msg.specs.Granted.{IsClear, PatchFits}
-use Rattle.lego_msg.specs.Maps.{overlaid, owner_of, page_in}
-use Rattle.lego_msg.specs.Operations.{is_write, patch_of}
-use Rattle.lego_msg.specs.Places.{cache_of, is_among, memory, same_place, secondary_of}
-use Rattle.lego_msg.specs.State.{Block, Disk, Mem, Waiter}
-use Rattle.lego_msg.specs.Table.{backup, reply}
+use Rattle.lego_msg.specs.Granted.{PatchFits}
+use Rattle.lego_msg.specs.Maps.{overlaid, page_in}
+use Rattle.lego_msg.specs.Operations.{patch_of}
+use Rattle.lego_msg.specs.Places.{memory, same_place, secondary_of}
+use Rattle.lego_msg.specs.State.{Mem}
 use Rattle.lego_msg.specs.Track.{Track, has_answered, healing_move, memory_count}
 use Rattle.lego_msg.specs.declared.message.Message.{Message}
 use Rattle.lego_msg.specs.declared.operation.Open.{Open}
 use Rattle.lego_msg.specs.declared.place.Place.{Place}
 use Rattle.lego_rest.specs.Answers.{all_pending, answers_to, asks_storage_by, gave_answer, heals_target, is_answer_from, is_storage_true}
-use Rattle.lego_rest.specs.Fits.{BatchFits, BlockFits, HasBatch, LogFits, MemFits, background, batch_message, changes_block, is_background, over, receipt}
+use Rattle.lego_rest.specs.Fits.{BatchFits, HasBatch, LogFits, MemFits, background, batch_message, changes_block, is_background, over, receipt}
 use Rattle.lego_rest.specs.Parts.{Page, is_owner, owns, second_part}
-use Rattle.lego_rest.specs.Pending.{Goes, IsBackground, IsPlace, IsUp, MayPend, OfBackground, Returns}
+use Rattle.lego_rest.specs.Pending.{IsPlace, IsUp, MayPend, OfBackground, Returns}
 use Rattle.lego_rest.specs.Rest.{MemHolds, Middle}
 use Rattle.rest_laws.proofs.Delivered.{left_of, of_first}
 use Rattle.rest_laws.proofs.Ended.{get_within}
 use Rattle.rest_laws.proofs.Filed.{FileGives, answers_now}
 use Rattle.rest_laws.proofs.Lookup.{page-overlaid}
-use Rattle.rest_laws.proofs.Meeting.{memory_same}
 use Rattle.rest_laws.proofs.Net.{background-taken}
 use Rattle.rest_laws.proofs.Opened.{every}
 use Rattle.rest_laws.proofs.Pages.{over_append, over_twice, touch_cases, untouched}
@@ -50,7 +47,7 @@ only_one k net net' m x split is one = by (background k split.front) (sym (ap (b
     by (y ∷ []) e = cc e
     by (y ∷ z ∷ front) e = cc e
 
-not_none : (k : ℕ) (net net' : List Message) (m : Message) → Split net net' m → is_background k m ≡ true → background k net ≡ [] → ⊥
+pub not_none : (k : ℕ) (net net' : List Message) (m : Message) → Split net net' m → is_background k m ≡ true → background k net ≡ [] → ⊥
 not_none k net net' m split is none = by (background k split.front) (sym (ap (background k) split.whole ∙ filter-append (is_background k) split.front (m ∷ split.back) ∙ ap (λ (b : Bool). background k split.front ++ cond b (m ∷ background k split.back) (background k split.back)) is) ∙ none)
   where
     by : (front : List Message) → front ++ m ∷ background k split.back ≡ [] → ⊥
@@ -274,8 +271,8 @@ module _ (lost : Option ℕ) (t : Track) (o : Open) (m : Message) (k : ℕ) (pat
       below = fit.below;
       same = fit.same;
       still = of_first (λ (y : Message). changes_block b y.body) (left_of t) (receipt_of ∷ []) refl
-        ∙ ap (list_any (λ (y : Message). changes_block b y.body)) left
-        ∙ changes_less (record t { current = Some o }) m may b fit.still;
+          ∙ ap (list_any (λ (y : Message). changes_block b y.body)) left
+          ∙ changes_less (record t { current = Some o }) m may b fit.still;
     }) s.blocks (middle.memories j s up_j at).blocks;
     files = inl refl;
     told = λ now. absurd (no_answer now);

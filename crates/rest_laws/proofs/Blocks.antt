@@ -1,5 +1,5 @@
 -- The blocks of a file once bytes are written into one of them, byte by byte.
-use Rattle.std.proofs.Common.{◌≡◌, ◌⊎◌, ◌+◌, ◌-◌, ◌*◌, ◌<◌, ◌≤◌, [], ◌∷◌, ◌++◌, ◌∙◌, ℕ, List, ap, append_assoc, arith, drop, get_or, inl, inr, length, length-append, refl, replicate, suc, sym, take, zero}
+use Rattle.std.proofs.Common.{◌≡◌, ◌+◌, ◌-◌, ◌*◌, ◌<◌, ◌≤◌, [], ◌∷◌, ◌++◌, ◌∙◌, ℕ, List, ap, arith, drop, get_or, inl, inr, length, length-append, refl, suc, sym, take, zero}
 use Rattle.std.proofs.Math.ListN.{get_or-append}
 use Rattle.std.proofs.lemmas.Bool.{cases_lt}
 use Rattle.std.proofs.lemmas.List.{ext_get_or, get_or-append_right, get_or-drop, get_or-take, length-drop, length-replicate, length-take-le, take_all}
@@ -100,7 +100,7 @@ written_twice old off (b ∷ piece) = ext_get_or 0 (written_at new off (b ∷ pi
     ]
 
 -- BLOCKS
-block_length : (bytes : List ℕ) (block : ℕ) → length (block_of bytes block) ≡ 4096
+pub block_length : (bytes : List ℕ) (block : ℕ) → length (block_of bytes block) ≡ 4096
 block_length bytes block = length-take-le 4096 (drop (block * 4096) bytes ++ zeros 4096) (let all = length-append (drop (block * 4096) bytes) (zeros 4096) in let behind = length-replicate {A = ℕ} 4096 0 in omega (arith, all, behind))
 
 block_at : (bytes : List ℕ) (block i : ℕ) → i < 4096 → get_or (block_of bytes block) i 0 ≡ get_or bytes (block * 4096 + i) 0

@@ -1,7 +1,7 @@
 -- A memory gets a message while an operation is open: what its row of the message table must give so that the relation is
 -- kept.
-use Rattle.std.proofs.Common.{◌≡◌, ◌⊎◌, ◌+◌, ◌<◌, ◌==◌, ◌&&◌, ◌||◌, [], ◌∷◌, ◌++◌, ◌∙◌, ℕ, Bool, List, None, Option, Some, ap, append-nil, cond, eqb, false, inl, inr, not, refl, slice_get, subst, sym, true}
-use Rattle.std.proofs.lemmas.Bool.{eq-eqb, eqb-true}
+use Rattle.std.proofs.Common.{◌≡◌, ◌⊎◌, ◌+◌, ◌<◌, ◌==◌, ◌&&◌, ◌||◌, [], ◌∷◌, ◌++◌, ◌∙◌, ℕ, Bool, List, None, Option, Some, ap, append-nil, cond, false, inl, inr, not, refl, slice_get, subst, sym, true}
+use Rattle.std.proofs.lemmas.Bool.{eq-eqb}
 use Rattle.std.proofs.lemmas.Bool.Decides.{eqb_tells}
 use Rattle.std.proofs.lemmas.List.Folds.{list_any-append}
 use Rattle.std.specs.List.{AllByRecursion, list_any}
@@ -13,7 +13,6 @@ use Rattle.lego_msg.specs.Operations.{is_write, patch_of}
 use Rattle.lego_msg.specs.Places.{cache_of, is_issuer, memory, same_place, secondary_of}
 use Rattle.lego_msg.specs.State.{Block, Mem}
 use Rattle.lego_msg.specs.Track.{Track, has_answered, healing_move, memory_count, taken_out}
-use Rattle.lego_msg.specs.declared.healing.Healing.{Healing}
 use Rattle.lego_msg.specs.declared.message.Message.{Message}
 use Rattle.lego_msg.specs.declared.operation.Open.{Open}
 use Rattle.lego_msg.specs.declared.place.Place.{Place}
@@ -26,7 +25,7 @@ use Rattle.lego_rest.specs.Rest.{CurrentFits, Middle}
 use Rattle.rest_laws.proofs.Opened.{all_both}
 use Rattle.rest_laws.proofs.Stepping.{row-keeps}
 use Rattle.rest_laws.proofs.Taken.{all_sent, all_taken, any_less, any_same, split, whole}
-use Rattle.rest_laws.proofs.Truth.{and_true, both_true, third_false}
+use Rattle.rest_laws.proofs.Truth.{and_true, both_true}
 use Rattle.rest_laws.specs.Moves.{Moves}
 use Rattle.rest_laws.specs.Steps.{Moment, Row}
 use Rattle.lego_msg.specs.declared.place.Place.TheVariants as place

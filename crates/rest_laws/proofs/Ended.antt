@@ -37,7 +37,7 @@ use Rattle.lego_msg.specs.declared.place.Place.TheVariants as place
 same_number : (a b : MemId) → a.0 ≡ b.0 → a ≡ b
 same_number a b e = λ i. record { 0 = e i }
 
-place_is : (a b : Place) → same_place a b ≡ true → a ≡ b
+pub place_is : (a b : Place) → same_place a b ≡ true → a ≡ b
 place_is (Processor a) (Processor b) e = λ i. Processor (record { 0 = eqb-true a.0 b.0 e i })
 place_is (Processor a) (Memory b) e = cc e
 place_is (Processor a) Storage e = cc e
@@ -55,7 +55,7 @@ place_is Manager (Memory b) e = cc e
 place_is Manager Storage e = cc e
 place_is Manager Manager e = refl
 
-target_answered : (p : Place) (targets : List Place) (answers : List Answer) → is_among p targets ≡ true → all_answered targets answers ≡ true → has_answered p answers ≡ true
+pub target_answered : (p : Place) (targets : List Place) (answers : List Answer) → is_among p targets ≡ true → all_answered targets answers ≡ true → has_answered p answers ≡ true
 target_answered p [] answers among all = cc among
 target_answered p (q ∷ targets) answers among all =
     let both = both_true (has_answered q answers) (all_answered targets answers) all in

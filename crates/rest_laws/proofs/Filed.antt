@@ -12,7 +12,7 @@ use Rattle.lego_msg.specs.Track.{Track, has_answered, healing_move, memory_count
 use Rattle.lego_msg.specs.declared.message.Message.{Message}
 use Rattle.lego_msg.specs.declared.operation.Open.{Open}
 use Rattle.lego_msg.specs.declared.place.Place.{Place}
-use Rattle.lego_rest.specs.Answers.{all_pending, answers_to, gave_answer, images_due, is_answer_from, is_storage_true, second_due}
+use Rattle.lego_rest.specs.Answers.{all_pending, answers_to, gave_answer, is_answer_from, is_storage_true, second_due}
 use Rattle.lego_rest.specs.Fits.{BatchFits, BlockFits, PagesFit}
 use Rattle.lego_rest.specs.Heals.{HealFits}
 use Rattle.lego_rest.specs.Parts.{Areas, Cell, Home, Page, new_share, second_part, sides_of}
@@ -21,7 +21,7 @@ use Rattle.lego_rest.specs.Rest.{CurrentFits, Middle}
 use Rattle.rest_laws.proofs.Delivered.{left_of, none_of}
 use Rattle.rest_laws.proofs.Opened.{all_both}
 use Rattle.rest_laws.proofs.Stepping.{storing-keeps}
-use Rattle.rest_laws.proofs.Taken.{all_sent, all_taken, any_less, split, whole}
+use Rattle.rest_laws.proofs.Taken.{all_sent, all_taken, any_less, whole}
 use Rattle.rest_laws.specs.Steps.{Moment, Storing}
 use Rattle.lego_msg.specs.declared.place.Place.TheVariants as place
 

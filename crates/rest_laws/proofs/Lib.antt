@@ -28,3 +28,17 @@ pub mod Replied
 pub mod Pages
 pub mod kinds
 pub mod Backing
+pub mod Receipt
+pub mod Requests
+pub mod Comes
+pub mod Goes
+pub mod Leads
+pub mod OfComponents
+pub mod Emptied
+pub mod Dried
+pub mod Formed
+pub mod Following
+pub mod Forward
+pub mod Refusing
+pub mod Exceeding
+pub mod Caused

@@ -1,9 +1,8 @@
 -- A memory meets a message of the open operation: what is known of both before the row of the message table.
-use Rattle.std.proofs.Common.{◌≡◌, ◌⊎◌, ◌+◌, ◌<◌, [], ◌∷◌, ◌++◌, ◌∙◌, ℕ, Bool, List, None, Option, Some, ap, append-nil, cond, false, refl, slice_get, subst, sym, true}
+use Rattle.std.proofs.Common.{◌≡◌, ◌<◌, [], ◌∷◌, ◌++◌, ◌∙◌, ℕ, Bool, List, None, Option, Some, ap, append-nil, cond, false, slice_get, subst, sym, true}
 use Rattle.std.proofs.lemmas.Bool.{eq-eqb}
 use Rattle.std.proofs.lemmas.List.Elements.{filter-append}
 use Rattle.std.specs.List.{AllByRecursion}
-use Rattle.lego_base.specs.declared.ids.MemId.{MemId}
 use Rattle.lego_msg.specs.Deliveries.{MayDeliver, taken}
 use Rattle.lego_msg.specs.Places.{memory, same_place, secondary_of}
 use Rattle.lego_msg.specs.State.{Block, Mem}
@@ -12,10 +11,10 @@ use Rattle.lego_msg.specs.declared.message.Message.{Message}
 use Rattle.lego_msg.specs.declared.operation.Open.{Open}
 use Rattle.lego_msg.specs.declared.place.Place.{Place}
 use Rattle.lego_rest.specs.Answers.{all_pending}
-use Rattle.lego_rest.specs.Fits.{BatchFits, IsRequest, MemFits, OpenFits, background, changes_block, is_background}
+use Rattle.lego_rest.specs.Fits.{MemFits, OpenFits, background, changes_block, is_background}
 use Rattle.lego_rest.specs.Parts.{Cell, IsEither, main_part, second_part, sides_of}
 use Rattle.lego_rest.specs.Pending.{IsAway, IsNot, IsOfMove, IsPlace, IsUp, MayPend}
-use Rattle.lego_rest.specs.Rest.{CurrentFits, MemHolds, Middle}
+use Rattle.lego_rest.specs.Rest.{MemHolds, Middle}
 use Rattle.rest_laws.proofs.Delivered.{left_of}
 use Rattle.rest_laws.proofs.Opened.{numbered_is_no_batch}
 use Rattle.rest_laws.proofs.Taken.{all_taken, batches_same, whole}

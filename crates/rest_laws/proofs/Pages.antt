@@ -1,8 +1,8 @@
 -- A page with patches laid over it: byte by byte, so that laying them over it twice is laying them over it once.
-use Rattle.std.proofs.Common.{◌≡◌, ◌⊎◌, ◌+◌, ◌-◌, ◌/◌, ◌<◌, ◌≤◌, ◌==◌, ◌&&◌, [], ◌∷◌, ◌++◌, ◌∙◌, ℕ, Bool, List, None, Option, Some, ap, arith, cond, drop, eqb, false, get_or, inl, inr, leb, length, length-append, ltb, refl, subst, sym, take, true}
+use Rattle.std.proofs.Common.{◌≡◌, ◌⊎◌, ◌+◌, ◌-◌, ◌/◌, ◌<◌, ◌≤◌, ◌==◌, ◌&&◌, [], ◌∷◌, ◌++◌, ◌∙◌, ℕ, Bool, List, None, Option, Some, ap, arith, cond, drop, false, get_or, inl, inr, leb, length, length-append, ltb, refl, sym, take, true}
 use Rattle.std.proofs.Math.ListN.{get_or-append}
 use Rattle.std.proofs.lemmas.Bool.{eqb-true, leb-false, leb-true, ltb-false, ltb-true}
-use Rattle.std.proofs.lemmas.List.{ext_get_or, get_or-append_right, get_or-drop, get_or-take, length-drop, length-replicate, length-take-le}
+use Rattle.std.proofs.lemmas.List.{ext_get_or, get_or-append_right, get_or-drop, get_or-take, length-replicate, length-take-le}
 use Rattle.std.specs.List.{AllByRecursion}
 use Rattle.lego_base.specs.Pieces.{laid_over, zeros}
 use Rattle.lego_base.specs.declared.ids.MemId.{MemId}

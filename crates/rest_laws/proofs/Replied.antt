@@ -1,10 +1,9 @@
 -- Rows by which a memory answers at once, and neither its log nor its cached blocks change.
-use Rattle.std.proofs.Common.{◌≡◌, ◌⊎◌, ◌+◌, ◌<◌, ◌≤◌, ◌==◌, ◌&&◌, ◌||◌, [], ◌∷◌, ◌++◌, ◌∙◌, ℕ, Bool, List, None, Option, Some, ap, append-nil, false, inl, inr, length, refl, subst, sym, take, true}
-use Rattle.std.proofs.lemmas.List.Folds.{list_any-append}
+use Rattle.std.proofs.Common.{◌≡◌, ◌⊎◌, ◌<◌, ◌≤◌, ◌==◌, ◌&&◌, ◌||◌, [], ◌∷◌, ◌++◌, ◌∙◌, ℕ, Bool, List, None, Option, Some, ap, append-nil, false, inl, inr, length, refl, subst, sym, take, true}
 use Rattle.std.specs.List.{AllByRecursion, list_any}
 use Rattle.lego_base.specs.declared.records.PageImage.{PageImage}
 use Rattle.lego_msg.specs.Operations.{is_write, patch_of}
-use Rattle.lego_msg.specs.Places.{cache_of, is_among, memory, same_place, secondary_of}
+use Rattle.lego_msg.specs.Places.{is_among, memory, same_place, secondary_of}
 use Rattle.lego_msg.specs.State.{Block, Kept, Mem}
 use Rattle.lego_msg.specs.Table.{reply}
 use Rattle.lego_msg.specs.Track.{Track, healing_move, memory_count}
@@ -14,14 +13,12 @@ use Rattle.lego_msg.specs.declared.operation.Open.{Open}
 use Rattle.lego_msg.specs.declared.place.Place.{Place}
 use Rattle.lego_rest.specs.Answers.{all_pending, answers_to}
 use Rattle.lego_rest.specs.Fits.{BatchFits, BlockFits, HasBatch, KeptFits, MemFits, PagesFit, background, batch_message, changes_block, receipt}
-use Rattle.lego_rest.specs.Parts.{Areas, Cell, Home, IsEither, Page, main_part, new_share, part_of, second_part, sides_of}
+use Rattle.lego_rest.specs.Parts.{Areas, Cell, Home, Page, main_part, new_share, part_of, second_part, sides_of}
 use Rattle.lego_rest.specs.Pending.{AnAnswer, IsAway, IsPlace, MayPend, OfOperation, Says}
-use Rattle.lego_rest.specs.Rest.{MemHolds}
-use Rattle.rest_laws.proofs.Delivered.{Given, RowGives, answers_for, left_of, of_first, speaks_of}
-use Rattle.rest_laws.proofs.Meeting.{Met, met_background, met_below, met_fits, met_holds, met_id, met_open, met_pends, met_some, met_up}
+use Rattle.rest_laws.proofs.Delivered.{RowGives, answers_for, left_of, of_first, speaks_of}
+use Rattle.rest_laws.proofs.Meeting.{Met, met_background, met_below, met_fits, met_holds, met_id, met_pends, met_some}
 use Rattle.rest_laws.proofs.Opened.{every}
 use Rattle.rest_laws.proofs.Taken.{changes_less}
-use Rattle.rest_laws.proofs.Truth.{both_true}
 use Rattle.rest_laws.specs.Moves.{Moves}
 
 -- the memory with what it keeps, and its pages
@@ -73,7 +70,6 @@ batch_as_before before later images s main spare pages same fits = record { none
     by (inr e) = inr (same ∙ e.0, e.1)
 
 module _ (lost : Option ℕ) (t : Track) (o : Open) (k : ℕ) (s : Mem) (m : Message) (met : Met lost t o k s m) where
-
   pub away_back : (r : Message) → r.from ≡ memory k → r.to ≡ m.from → IsAway lost r
   away_back r from to = by lost met.away
     where
@@ -100,8 +96,8 @@ module _ (lost : Option ℕ) (t : Track) (o : Open) (k : ℕ) (s : Mem) (m : Mes
     below = fit.below;
     same = fit.same;
     still = of_first (λ (r : Message). changes_block b r.body) (left_of t) out (none b)
-      ∙ ap (list_any (λ (r : Message). changes_block b r.body)) (sym (ap (λ (ms : List Message). left_of t ++ ms) met.may.owed ∙ append-nil (left_of t)))
-      ∙ changes_less (record t { current = Some o }) m met.may b fit.still;
+        ∙ ap (list_any (λ (r : Message). changes_block b r.body)) (sym (ap (λ (ms : List Message). left_of t ++ ms) met.may.owed ∙ append-nil (left_of t)))
+        ∙ changes_less (record t { current = Some o }) m met.may b fit.still;
   }) s.blocks (met_holds lost t o k s m met).blocks
 
   pub replied : (main spare : Kept) (pages : List PageImage) (told : Body) → m.from ≡ o.by → is_among (memory k) o.targets ≡ true → Says (memory_count t.shape) t.plain o.operation (memory k) told → ((b : Block) → changes_block b told ≡ false) →

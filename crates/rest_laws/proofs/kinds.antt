@@ -17,3 +17,4 @@ pub mod Naming
 pub mod Caching
 pub mod FilesRead
 pub mod FilesChanged
+pub mod EveryKind

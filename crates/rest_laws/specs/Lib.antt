@@ -10,3 +10,9 @@ pub mod Beginning
 pub mod Completing
 pub mod Crashing
 pub mod KindsEnding
+pub mod GoingOn
+pub mod Components
+pub mod Logs
+pub mod Forms
+pub mod Forward
+pub mod Causes

@@ -10,8 +10,14 @@ ghost use Rattle.rest_laws.specs.Beginning.{OperationBegins};
 ghost use Rattle.rest_laws.specs.Completing.{OperationEnds};
 ghost use Rattle.rest_laws.specs.Crashing.{CrashBegins};
 ghost use Rattle.rest_laws.specs.Delivering.{OldIsDropped, AnswerIsNoted, ReactionIsOwed};
+ghost use Rattle.rest_laws.specs.GoingOn.{AnswersAreTrue, EventsKeep, LeadsBack, ListsEndAtRest, ListsKeep};
 ghost use Rattle.rest_laws.specs.KindsEnding.{EveryKindEnds};
 ghost use Rattle.rest_laws.specs.Sending.{OwedIsSent, FirstIsSent};
+ghost use Rattle.rest_laws.specs.Components.{PlainIsOfComponents};
+ghost use Rattle.rest_laws.specs.Logs.{DrainsEmpty, EmptyLogsStay, LogsGrowByWrites};
+ghost use Rattle.rest_laws.specs.Forms.{MessagesAreInForm};
+ghost use Rattle.rest_laws.specs.Forward.{SomethingComes};
+ghost use Rattle.rest_laws.specs.Causes.{RefusalsHaveCauses};
 
 /// An entry that is put is found under its key.
 pub fn entries_are_found_where_put()
@@ -141,4 +147,67 @@ pub fn crashes_begin_in_the_relation()
 /// Every kind of operation that is called for meets the law of its completion, where its caller owes nothing.
 pub fn every_kind_ends()
     ensures { EveryKindEnds }
+{}
+
+/// Every event but a crash keeps the relation, whatever kind of operation is open, where nothing is lost and the operation
+/// that begins with it is granted.
+pub fn every_event_keeps_the_relation()
+    ensures { EventsKeep }
+{}
+
+/// A legal list without a crash leads from rest to the relation, where each operation is granted as it begins.
+pub fn lists_without_a_crash_keep_the_relation()
+    ensures { ListsKeep }
+{}
+
+/// The answers that an open operation has got say what is so of the plain map before it.
+pub fn answers_say_what_is_so()
+    ensures { AnswersAreTrue }
+{}
+
+/// An operation that is granted at rest leads back to rest, through every legal list of sends and deliveries and its
+/// completion; its effect on the plain map is all that is new.
+pub fn an_operation_leads_back_to_rest()
+    ensures { LeadsBack }
+{}
+
+/// At rest the plain map is a function of what the components hold.
+pub fn the_plain_map_is_of_the_components()
+    ensures { PlainIsOfComponents }
+{}
+
+/// A memory's log grows by a write to it alone; all else leaves it or removes its oldest patches.
+pub fn logs_grow_by_writes()
+    ensures { LogsGrowByWrites }
+{}
+
+/// An operation that doesn't write leaves empty logs empty.
+pub fn empty_logs_stay_empty()
+    ensures { EmptyLogsStay }
+{}
+
+/// A drain leaves the log of its memory empty, whatever the log held.
+pub fn a_drain_leaves_its_log_empty()
+    ensures { DrainsEmpty }
+{}
+
+/// Each message on its way to a memory or to storage is in form for it, where nothing is lost.
+pub fn messages_are_in_form()
+    ensures { MessagesAreInForm }
+{}
+
+/// An operation that isn't complete has something on its way, once all of it is sent, where nothing is lost or refused.
+pub fn something_comes()
+    ensures { SomethingComes }
+{}
+
+/// A refusal that stops the run is on its way only where a memory would hold more pages than it has frames, or the files would
+/// need more blocks than storage has.
+pub fn refusals_have_causes()
+    ensures { RefusalsHaveCauses }
+{}
+
+/// Such a list ends at rest where nothing is open then and nothing was refused.
+pub fn lists_end_at_rest()
+    ensures { ListsEndAtRest }
 {}

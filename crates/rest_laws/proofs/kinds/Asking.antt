@@ -1,5 +1,5 @@
 -- Questions to memories: for an owner, a line, or the areas of a region.
-use Rattle.std.proofs.Common.{◌≡◌, ◌⊎◌, ◌+◌, ◌*◌, ◌/◌, ◌==◌, ◌||◌, [], ◌∷◌, ◌∙◌, ℕ, Bool, List, None, Option, Some, ap, arith, cond, false, inl, inr, refl, subst, sym, true}
+use Rattle.std.proofs.Common.{◌≡◌, ◌⊎◌, ◌/◌, ◌||◌, [], ◌∷◌, ◌∙◌, ℕ, Bool, List, None, Option, Some, ap, arith, cond, false, inl, inr, refl, sym, true}
 use Rattle.std.proofs.lemmas.Bool.{eq-eqb}
 use Rattle.lego_base.specs.Space.{perms_of}
 use Rattle.lego_base.specs.declared.ids.LineNo.{LineNo}
@@ -10,7 +10,7 @@ use Rattle.lego_base.specs.declared.perms.Perms.{Perms}
 use Rattle.lego_base.specs.declared.records.HomeEntry.{HomeEntry}
 use Rattle.lego_msg.specs.Maps.{areas_at, bytes_or_zeros, owner_of, page_at, page_in}
 use Rattle.lego_msg.specs.Operations.{patch_of}
-use Rattle.lego_msg.specs.Places.{home_of, is_among, memory, same_place, secondary_of}
+use Rattle.lego_msg.specs.Places.{home_of, is_among, memory}
 use Rattle.lego_msg.specs.Plain.{effect}
 use Rattle.lego_msg.specs.State.{Block, Mem}
 use Rattle.lego_msg.specs.Table.{line_answer, reply}
@@ -19,18 +19,15 @@ use Rattle.lego_msg.specs.declared.body.Body.{Body}
 use Rattle.lego_msg.specs.declared.message.Message.{Message}
 use Rattle.lego_msg.specs.declared.operation.Open.{Open}
 use Rattle.lego_msg.specs.declared.operation.Operation.TheVariants.{AsksAreas, Finds, Reads}
-use Rattle.lego_msg.specs.declared.place.Place.{Place}
-use Rattle.lego_msg.specs.declared.place.Why.TheVariants as why
 use Rattle.lego_rest.specs.Answers.{answers_to}
 use Rattle.lego_rest.specs.Fits.{OpenFits, changes_block}
 use Rattle.lego_rest.specs.Parts.{Areas, Cell, Home, Page, is_owner, main_part, new_share, old_share, owns, second_part, share, sides_of}
 use Rattle.lego_rest.specs.Pending.{Says}
 use Rattle.rest_laws.proofs.Delivered.{RowGives}
 use Rattle.rest_laws.proofs.Meeting.{Met, met_fits, met_main, met_open, met_second}
-use Rattle.rest_laws.proofs.Replied.{Change, all_new, replied}
+use Rattle.rest_laws.proofs.Replied.{all_new, replied}
 use Rattle.rest_laws.proofs.kinds.Kind.{KindRows, MemoryGives, here, rows_of}
 use Rattle.lego_msg.specs.declared.body.Body.TheVariants as body
-use Rattle.lego_msg.specs.declared.place.Place.TheVariants as place
 
 pub alone : (h : ℕ) → is_among (memory h) (memory h ∷ []) ≡ true
 alone h = ap (λ (b : Bool). b || false) (eq-eqb h h refl)

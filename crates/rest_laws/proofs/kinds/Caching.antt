@@ -1,5 +1,5 @@
 -- Rows by which a memory's cached blocks change and one message is sent.
-use Rattle.std.proofs.Common.{◌≡◌, ◌⊎◌, ◌+◌, ◌<◌, ◌==◌, ◌&&◌, ◌||◌, [], ◌∷◌, ◌++◌, ◌∙◌, ℕ, Bool, List, None, Option, Some, ap, append-nil, cond, false, inl, inr, refl, subst, suc, sym, take, true, zero}
+use Rattle.std.proofs.Common.{◌≡◌, ◌⊎◌, ◌<◌, ◌==◌, ◌||◌, [], ◌∷◌, ◌++◌, ◌∙◌, ℕ, Bool, List, Option, Some, ap, append-nil, cond, false, inl, refl, subst, suc, sym, take, true, zero}
 use Rattle.std.proofs.lemmas.Bool.{eqb-true}
 use Rattle.std.specs.List.{AllByRecursion, list_any}
 use Rattle.lego_base.specs.declared.ids.OpNo.{OpNo}
@@ -70,8 +70,8 @@ module _ (lost : Option ℕ) (t : Track) (o : Open) (k : ℕ) (s : Mem) (m : Mes
     below = fit.below;
     same = fit.same;
     still = of_first (λ (x : Message). changes_block b x.body) (left_of t) (r ∷ []) (ap (λ (x : Bool). x || false) unchanged)
-      ∙ ap (list_any (λ (x : Message). changes_block b x.body)) (sym (ap (λ (ms : List Message). left_of t ++ ms) met.may.owed ∙ append-nil (left_of t)))
-      ∙ changes_less (record t { current = Some o }) m met.may b fit.still;
+        ∙ ap (list_any (λ (x : Message). changes_block b x.body)) (sym (ap (λ (ms : List Message). left_of t ++ ms) met.may.owed ∙ append-nil (left_of t)))
+        ∙ changes_less (record t { current = Some o }) m met.may b fit.still;
   }
 
   pub cached : (blocks : List Block) (r : Message) → MayPend lost (memory_count t.shape) t.plain (Some o) (healing_move t.healing) t.next r → r.from ≡ memory k → r.op ≡ m.op → ((b : Block) → (k ≡ cache_of (memory_count t.shape) b.file → ⊥) → changes_block b r.body ≡ false) →

@@ -1,10 +1,10 @@
 -- What is found once regions are copied for a child: in them what the parent has, elsewhere what was there.
-use Rattle.std.proofs.Common.{◌≡◌, ◌⊎◌, ◌+◌, ◌/◌, ◌<◌, ◌==◌, ◌&&◌, ◌||◌, [], ◌∷◌, ◌++◌, ◌∙◌, ℕ, Bool, List, None, Option, Some, ap, arith, cond, eqb, false, inl, inr, length, map, not, refl, subst, sym, true}
+use Rattle.std.proofs.Common.{◌≡◌, ◌/◌, ◌==◌, ◌&&◌, ◌||◌, [], ◌∷◌, ◌∙◌, ℕ, Bool, List, None, Option, Some, ap, arith, cond, false, inl, inr, length, map, refl, subst, sym, true}
 use Rattle.std.proofs.lemmas.Bool.{eq-eqb, eqb-true}
 use Rattle.std.specs.List.{AllByRecursion}
 use Rattle.keyed_list.proofs.Listed.{Rises-put, above_rest, find-put}
 use Rattle.keyed_list.proofs.Order.{below_is, same_is}
-use Rattle.lego_base.specs.Keys.{IsAbove, Key, Rises, find, is_below, is_page_of, key_at, put, put_all, same_key, those, without}
+use Rattle.lego_base.specs.Keys.{IsAbove, Key, Rises, find, is_page_of, key_at, put, put_all, same_key, those, without}
 use Rattle.lego_base.specs.declared.ids.Pid.{Pid}
 use Rattle.lego_base.specs.declared.ids.RegionNo.{RegionNo}
 use Rattle.lego_base.specs.declared.records.Area.{Area}
@@ -118,7 +118,7 @@ module _ (parent child : ℕ) (apart : (child == parent) ≡ false) where
       steps_of (r ∷ regions) f p v = steps_of regions (with_region_of parent child r.0 f) p v
 
 -- an entry of a rising list is the only one with its key
-only_one : (x : PageImage) (pages : List PageImage) (k : Key) → IsAbove page_key x pages → Rises page_key pages → same_key (page_key x) k ≡ true → find page_key k pages ≡ None
+pub only_one : (x : PageImage) (pages : List PageImage) (k : Key) → IsAbove page_key x pages → Rises page_key pages → same_key (page_key x) k ≡ true → find page_key k pages ≡ None
 only_one x [] k above rise same = refl
 only_one x (y ∷ pages) k above rise same = by (same_key (page_key y) k) refl (only_one x pages k (above_rest page_key x y pages above rise.0) rise.1 same)
   where

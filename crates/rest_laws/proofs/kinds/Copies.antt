@@ -1,5 +1,5 @@
 -- Operations that copy regions for a child: areas at the owner and its secondary, pages at the owner, images at storage.
-use Rattle.std.proofs.Common.{◌≡◌, ◌⊎◌, ◌+◌, ◌/◌, ◌<◌, ◌==◌, ◌&&◌, ◌||◌, [], ◌∷◌, ◌∙◌, ℕ, Bool, List, None, Option, Some, ap, cond, false, inl, inr, leb, length, refl, slice_get, subst, sym, true}
+use Rattle.std.proofs.Common.{◌≡◌, ◌⊎◌, ◌/◌, ◌<◌, ◌==◌, ◌&&◌, ◌||◌, [], ◌∷◌, ◌∙◌, ℕ, Bool, List, None, Option, Some, ap, cond, false, inl, inr, leb, length, refl, slice_get, subst, sym, true}
 use Rattle.std.proofs.lemmas.Bool.{eq-eqb, eqb-true, leb-true}
 use Rattle.std.specs.List.{AllByRecursion}
 use Rattle.lego_base.specs.declared.ids.MemId.{MemId}
@@ -7,10 +7,9 @@ use Rattle.lego_base.specs.declared.ids.Pid.{Pid}
 use Rattle.lego_base.specs.declared.ids.RegionNo.{RegionNo}
 use Rattle.lego_base.specs.declared.records.Area.{Area}
 use Rattle.lego_base.specs.declared.records.HomeEntry.{HomeEntry}
-use Rattle.lego_base.specs.declared.records.PageImage.{PageImage}
 use Rattle.lego_base.specs.declared.records.Patch.{Patch}
 use Rattle.lego_msg.specs.Granted.{CopyFits, is_region_in}
-use Rattle.lego_msg.specs.Maps.{areas_at, copied_areas, copied_pages, overlaid, owner_of, page_in}
+use Rattle.lego_msg.specs.Maps.{areas_at, copied_areas, copied_pages, owner_of, page_in}
 use Rattle.lego_msg.specs.Places.{home_of, is_among, memory, secondary_of}
 use Rattle.lego_msg.specs.Plain.{Plain, with_region_of, with_regions_of}
 use Rattle.lego_msg.specs.State.{Kept, Mem}
@@ -26,7 +25,7 @@ use Rattle.lego_rest.specs.Pending.{IsUp}
 use Rattle.rest_laws.proofs.Copying.{same_copied}
 use Rattle.rest_laws.proofs.Delivered.{RowGives, speaks_of}
 use Rattle.rest_laws.proofs.Lookup.{page-overlaid}
-use Rattle.rest_laws.proofs.Meeting.{Met, met_fits, met_main, met_open, met_second}
+use Rattle.rest_laws.proofs.Meeting.{met_fits, met_main, met_open, met_second}
 use Rattle.rest_laws.proofs.Noted.{eqb_sym}
 use Rattle.rest_laws.proofs.Pages.{untouched}
 use Rattle.rest_laws.proofs.Replied.{all_new, keeping, none_changes, replied}
@@ -132,7 +131,7 @@ module _ (lost : Option ℕ) (t : Track) (o : Open) (parent child : Pid) (region
         there_ (inl e) = inl e
         there_ (inr e) = inr (e ∙ ap (λ (l : List Area). cond (owns t.owners j p q) l []) (plain_areas_in parent.0 child.0 apart regions t.plain p q))
 
-    pages_new : (held : ℕ → ℕ → Option (List ℕ)) → ((p v : ℕ) → (held p v ≡ cond (owns t.owners owner.0 p (v / 512)) (t.plain.page p v) None) ⊎ (held p v ≡ cond (owns t.owners owner.0 p (v / 512)) (after.page p v) None)) → (p v : ℕ) → cond (child.0 == p && is_region_in (v / 512) regions) (held parent.0 v) (held p v) ≡ cond (owns t.owners owner.0 p (v / 512)) (after.page p v) None
+    pub pages_new : (held : ℕ → ℕ → Option (List ℕ)) → ((p v : ℕ) → (held p v ≡ cond (owns t.owners owner.0 p (v / 512)) (t.plain.page p v) None) ⊎ (held p v ≡ cond (owns t.owners owner.0 p (v / 512)) (after.page p v) None)) → (p v : ℕ) → cond (child.0 == p && is_region_in (v / 512) regions) (held parent.0 v) (held p v) ≡ cond (owns t.owners owner.0 p (v / 512)) (after.page p v) None
     pages_new held either p v =
         copied_cell (child.0 == p && is_region_in (v / 512) regions) (owns t.owners owner.0 p (v / 512)) (owns t.owners owner.0 parent.0 (v / 512)) (held parent.0 v) (held p v) (t.plain.page parent.0 v) (t.plain.page p v) None (λ this. (owned owner.0 refl p (v / 512) this).0) (λ this. (owned owner.0 refl p (v / 512) this).1)
         (agreed (held parent.0 v) (cond (owns t.owners owner.0 parent.0 (v / 512)) (after.page parent.0 v) None) (cond (owns t.owners owner.0 parent.0 (v / 512)) (t.plain.page parent.0 v) None) (ap (λ (l : Option (List ℕ)). cond (owns t.owners owner.0 parent.0 (v / 512)) l None) (parent_pages v)) (turned (either parent.0 v)))

@@ -1,9 +1,8 @@
 -- The write of bytes into a file and the change of its size: the cache drops what it has of it and hands the change on to
 -- storage, which answers.
-use Rattle.std.proofs.Common.{◌≡◌, ◌⊎◌, ◌+◌, ◌*◌, ◌%◌, ◌<◌, ◌==◌, ◌&&◌, ◌||◌, [], ◌∷◌, ◌++◌, ◌∙◌, ℕ, Bool, List, None, Option, Some, ap, arith, cond, false, inl, inr, length, refl, subst, sym, true}
-use Rattle.std.proofs.lemmas.Bool.{eq-eqb, eqb-true}
+use Rattle.std.proofs.Common.{◌≡◌, ◌⊎◌, ◌+◌, ◌*◌, ◌==◌, ◌&&◌, ◌∙◌, ℕ, Bool, List, Option, Some, ap, arith, cond, false, inl, inr, refl, subst, sym, true}
+use Rattle.std.proofs.lemmas.Bool.{eq-eqb}
 use Rattle.std.proofs.lemmas.Bool.Decides.{eqb_tells}
-use Rattle.std.specs.List.{AllByRecursion}
 use Rattle.lego_base.specs.Files.{File, file_bytes, is_file, with_file_bytes}
 use Rattle.lego_base.specs.Pieces.{of_size, written_at}
 use Rattle.lego_base.specs.declared.ids.FileNo.{FileNo}
@@ -11,15 +10,12 @@ use Rattle.lego_base.specs.declared.ids.OpNo.{OpNo}
 use Rattle.lego_msg.specs.Files.{Files, block_of, file_cut, file_written, is_room}
 use Rattle.lego_msg.specs.Places.{cache_of, is_among, memory}
 use Rattle.lego_msg.specs.Plain.{Plain, effect, with_files}
-use Rattle.lego_msg.specs.State.{Block, Disk, Mem}
-use Rattle.lego_msg.specs.Table.{is_block, tells, without_block, without_blocks}
+use Rattle.lego_msg.specs.State.{Block, Mem}
+use Rattle.lego_msg.specs.Table.{tells, without_block, without_blocks}
 use Rattle.lego_msg.specs.Track.{Track, healing_move, memory_count}
-use Rattle.lego_msg.specs.declared.body.Body.{Body}
 use Rattle.lego_msg.specs.declared.message.Message.{Message}
 use Rattle.lego_msg.specs.declared.operation.Open.{Open}
 use Rattle.lego_msg.specs.declared.operation.Operation.TheVariants.{CutsFile, WritesFile}
-use Rattle.lego_msg.specs.declared.place.Place.{Place}
-use Rattle.lego_rest.specs.Fits.{changes_block}
 use Rattle.lego_rest.specs.Parts.{Cell, share}
 use Rattle.lego_rest.specs.Pending.{AnAnswer, First, HandedOn, HandsOn, IsPlace, MayPend, OfOpen, OfOperation, Reaction}
 use Rattle.rest_laws.proofs.Blocks.{other_block, sized_twice, written_twice}
@@ -29,13 +25,12 @@ use Rattle.rest_laws.proofs.Meeting.{Met, met_below, met_holds, met_id, met_main
 use Rattle.rest_laws.proofs.Noted.{eqb_sym}
 use Rattle.rest_laws.proofs.Opened.{every}
 use Rattle.rest_laws.proofs.Replied.{Change, all_new}
-use Rattle.rest_laws.proofs.Truth.{both_true}
 use Rattle.rest_laws.proofs.Unchanged.{same_kept}
 use Rattle.rest_laws.proofs.kinds.Caching.{all_without, all_without_file, block_goes, cached}
 use Rattle.rest_laws.proofs.kinds.Cells.{agreed}
 use Rattle.rest_laws.proofs.kinds.Filing.{BlockStays, filed_none, filed_one, issuer_answer}
 use Rattle.rest_laws.proofs.kinds.FilesRead.{same_message, storage_away}
-use Rattle.rest_laws.proofs.kinds.Kind.{KindRows, MemoryGives, Reaches, StorageGives, here, no_answer_here, no_answer_there, storage_apart}
+use Rattle.rest_laws.proofs.kinds.Kind.{KindRows, MemoryGives, StorageGives, here, no_answer_here, no_answer_there, storage_apart}
 use Rattle.lego_msg.specs.declared.body.Body.TheVariants as body
 use Rattle.lego_msg.specs.declared.place.Place.TheVariants as place
 use Rattle.lego_msg.specs.declared.place.Why.TheVariants as why
@@ -47,11 +42,11 @@ changed_twice change twice n files there =
     ap (λ (bytes : List ℕ). with_file_bytes (with_file_bytes files n (change (file_bytes files n))) n (change bytes)) (with_same n (change (file_bytes files n)) files there)
     ∙ with_twice n (change (file_bytes files n)) (change (change (file_bytes files n))) files ∙ ap (with_file_bytes files n) (twice (file_bytes files n))
 
-abbrev changed : (List ℕ → List ℕ) → ℕ → Files → Files
+abbrev pub changed : (List ℕ → List ℕ) → ℕ → Files → Files
 changed change n f = record f { files = with_file_bytes f.files n (change (file_bytes f.files n)) }
 
 -- the files that storage has become the new ones, whether they were the old or the new
-changed_new : (change : List ℕ → List ℕ) → ((bytes : List ℕ) → change (change bytes) ≡ change bytes) → (n : ℕ) (held old : Files) → is_file old.files n ≡ true → (held ≡ old) ⊎ (held ≡ changed change n old) → changed change n held ≡ changed change n old
+pub changed_new : (change : List ℕ → List ℕ) → ((bytes : List ℕ) → change (change bytes) ≡ change bytes) → (n : ℕ) (held old : Files) → is_file old.files n ≡ true → (held ≡ old) ⊎ (held ≡ changed change n old) → changed change n held ≡ changed change n old
 changed_new change twice n held old there (inl e) = ap (changed change n) e
 changed_new change twice n held old there (inr e) = ap (changed change n) e ∙ ap (λ (files : List File). record old { files = files }) (changed_twice change twice n old.files there)
 

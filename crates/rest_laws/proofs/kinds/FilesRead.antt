@@ -1,38 +1,30 @@
 -- The read of a file's block: a cached block answers, else storage is asked for it and gives it to the cache.
-use Rattle.std.proofs.Common.{◌≡◌, ◌⊎◌, ◌+◌, ◌%◌, ◌<◌, ◌==◌, ◌&&◌, ◌||◌, [], ◌∷◌, ◌++◌, ◌∙◌, ℕ, Bool, List, None, Option, Some, ap, append-nil, arith, cond, false, inl, inr, refl, subst, sym, take, true}
-use Rattle.std.proofs.lemmas.Bool.{eq-eqb}
+use Rattle.std.proofs.Common.{◌≡◌, ◌⊎◌, ◌<◌, ◌||◌, [], ◌∷◌, ◌++◌, ◌∙◌, ℕ, Bool, List, None, Option, Some, ap, false, inl, inr, refl, subst, sym, take, true}
 use Rattle.std.specs.List.{AllByRecursion, list_any}
 use Rattle.lego_base.specs.Files.{file_bytes, is_file}
 use Rattle.lego_base.specs.Pieces.{piece}
 use Rattle.lego_base.specs.declared.ids.FileNo.{FileNo}
-use Rattle.lego_msg.specs.Deliveries.{taken}
 use Rattle.lego_msg.specs.Files.{Files, block_of}
-use Rattle.lego_msg.specs.Operations.{asks_of, messages_of}
-use Rattle.lego_msg.specs.Places.{cache_of, is_among, is_issuer, memory, same_place, secondary_of}
+use Rattle.lego_msg.specs.Places.{cache_of, is_among, is_issuer, memory, same_place}
 use Rattle.lego_msg.specs.State.{Block, Mem}
 use Rattle.lego_msg.specs.Table.{block_in, read_block, reply, without_block}
 use Rattle.lego_msg.specs.Track.{Track, healing_move, memory_count}
-use Rattle.lego_msg.specs.declared.body.Body.{Body}
 use Rattle.lego_msg.specs.declared.message.Message.{Message}
 use Rattle.lego_msg.specs.declared.operation.Open.{Open}
 use Rattle.lego_msg.specs.declared.operation.Operation.TheVariants.{ReadsFile}
 use Rattle.lego_msg.specs.declared.place.Place.{Place}
 use Rattle.lego_rest.specs.Answers.{all_pending}
 use Rattle.lego_rest.specs.Fits.{BlockFits, OpenFits, changes_block}
-use Rattle.lego_rest.specs.Parts.{Cell}
 use Rattle.lego_rest.specs.Pending.{AnAnswer, First, Goes, HandedOn, IsAway, IsBatch, IsOfMove, IsPlace, Left, MayPend, OfBackground, OfMove, OfOpen, OfOperation, Pends, Reaction, Returns}
-use Rattle.rest_laws.proofs.Delivered.{RowGives, answers_for, left_of}
-use Rattle.rest_laws.proofs.Filed.{FileGives}
-use Rattle.rest_laws.proofs.Meeting.{Met, met_below, met_fits, met_holds, met_id, met_main, met_open, met_pends, met_second}
-use Rattle.rest_laws.proofs.Noted.{place_sym}
+use Rattle.rest_laws.proofs.Delivered.{RowGives, left_of}
+use Rattle.rest_laws.proofs.Meeting.{Met, met_below, met_holds, met_id, met_main, met_open, met_second}
 use Rattle.rest_laws.proofs.Opened.{every, issuer_there}
-use Rattle.rest_laws.proofs.Replied.{Change, all_new, answer_pends, away_back}
-use Rattle.rest_laws.proofs.Taken.{changes_less}
+use Rattle.rest_laws.proofs.Replied.{Change, all_new, answer_pends}
 use Rattle.rest_laws.proofs.kinds.Asking.{alone}
-use Rattle.rest_laws.proofs.kinds.Caching.{all_first, all_without, block_goes, cached, caching, found_block}
+use Rattle.rest_laws.proofs.kinds.Caching.{all_first, all_without, block_goes, cached, found_block}
 use Rattle.rest_laws.proofs.kinds.Cells.{agreed}
 use Rattle.rest_laws.proofs.kinds.Filing.{filed_none, old_files, reached_pends}
-use Rattle.rest_laws.proofs.kinds.Kind.{KindRows, MemoryGives, Reaches, StorageGives, here, no_answer_here, no_answer_there, storage_apart}
+use Rattle.rest_laws.proofs.kinds.Kind.{KindRows, MemoryGives, StorageGives, here, no_answer_here, no_answer_there, storage_apart}
 use Rattle.lego_msg.specs.declared.body.Body.TheVariants as body
 use Rattle.lego_msg.specs.declared.place.Place.TheVariants as place
 
@@ -92,7 +84,7 @@ module _ (lost : Option ℕ) (t : Track) (o : Open) (file : FileNo) (block off l
       of_open (Reaction from how) = absurd how
       of_open (HandedOn (inl how)) = ap (changes_block b) how.2
       of_open (HandedOn (inr how)) = ap (changes_block b) how.2
-      of_open (AnAnswer to target says) = ap (changes_block b) says
+      of_open (AnAnswer to of says) = ap (changes_block b) says
 
       by : Pends lost (memory_count t.shape) t.plain (Some reading) (healing_move t.healing) t.next x → changes_block b x.body ≡ false
       by (OfOperation of) = of_open of.2
@@ -122,11 +114,10 @@ module _ (lost : Option ℕ) (t : Track) (o : Open) (file : FileNo) (block off l
 
     -- the blocks with one of them first
     first_fit : (bytes : List ℕ) (r : Message) → ((b : Block) → changes_block b r.body ≡ false) → BlockFits (memory_count t.shape) cache t.disk.files (all_pending t) (record { file = file.0; block = block; bytes = bytes }) → AllByRecursion (BlockFits (memory_count t.shape) cache t.disk.files (left_of t ++ r ∷ [])) (take s.cache_room (record { file = file.0; block = block; bytes = bytes } ∷ without_block file.0 block s.blocks))
-    first_fit bytes r quiet fit = all_first (BlockFits (memory_count t.shape) cache t.disk.files (left_of t ++ r ∷ [])) s.cache_room (record { file = file.0; block = block; bytes = bytes } ∷ without_block file.0 block s.blocks)
-        (
-          block_goes lost t reading cache s m met r (record { file = file.0; block = block; bytes = bytes }) (quiet (record { file = file.0; block = block; bytes = bytes })) fit,
-          every (λ b known. block_goes lost t reading cache s m met r b (quiet b) known.0) (without_block file.0 block s.blocks) (all_without (BlockFits (memory_count t.shape) cache t.disk.files (all_pending t)) file.0 block s.blocks (met_holds lost t reading cache s m met).blocks),
-        )
+    first_fit bytes r quiet fit = all_first (BlockFits (memory_count t.shape) cache t.disk.files (left_of t ++ r ∷ [])) s.cache_room (record { file = file.0; block = block; bytes = bytes } ∷ without_block file.0 block s.blocks) (
+      block_goes lost t reading cache s m met r (record { file = file.0; block = block; bytes = bytes }) (quiet (record { file = file.0; block = block; bytes = bytes })) fit,
+      every (λ b known. block_goes lost t reading cache s m met r b (quiet b) known.0) (without_block file.0 block s.blocks) (all_without (BlockFits (memory_count t.shape) cache t.disk.files (all_pending t)) file.0 block s.blocks (met_holds lost t reading cache s m met).blocks),
+    )
 
   -- AT THE CACHE
   read : (s : Mem) → MemoryGives lost t reading cache s read_message
@@ -200,7 +191,7 @@ module _ (lost : Option ℕ) (t : Track) (o : Open) (file : FileNo) (block off l
       memories k s m (Reaction from how) = absurd how
       memories k s m (HandedOn (inl how)) = λ met. absurd (storage_apart k (sym met.to ∙ how.1))
       memories k s m (HandedOn (inr how)) = λ met. subst (λ (x : Message). MemoryGives lost t reading k s x) (sym (same_message m block_message how.0 how.1 met.number how.2)) ((here lost t reading block_message cache refl arrived).0 k s) met
-      memories k s m (AnAnswer to target says) = λ met. absurd (no_answer_here lost t reading k s m met to)
+      memories k s m (AnAnswer to of says) = λ met. absurd (no_answer_here lost t reading k s m met to)
 
       storage : (m : Message) → OfOpen (memory_count t.shape) t.plain m reading → StorageGives lost t reading m
       storage m (First (inl e)) = λ reaches. absurd (storage_apart cache (ap (λ (x : Message). x.to) (sym e) ∙ reaches.to))
@@ -208,4 +199,4 @@ module _ (lost : Option ℕ) (t : Track) (o : Open) (file : FileNo) (block off l
       storage m (Reaction from how) = absurd how
       storage m (HandedOn (inl how)) = λ reaches. subst (StorageGives lost t reading) (sym (same_message m get_message how.0 how.1 reaches.number how.2)) got reaches
       storage m (HandedOn (inr how)) = λ reaches. absurd (storage_apart cache (sym how.1 ∙ reaches.to))
-      storage m (AnAnswer to target says) = λ reaches. absurd (no_answer_there lost t reading m reaches to)
+      storage m (AnAnswer to of says) = λ reaches. absurd (no_answer_there lost t reading m reaches to)

@@ -1,14 +1,14 @@
 -- Rows by which storage sends one message and no image changes.
-use Rattle.std.proofs.Common.{◌≡◌, ◌⊎◌, ◌+◌, ◌/◌, ◌<◌, ◌≤◌, ◌==◌, ◌&&◌, ◌||◌, [], ◌∷◌, ◌++◌, ◌∙◌, ℕ, Bool, List, None, Option, Some, ap, append-nil, arith, cond, false, inl, inr, refl, slice_get, subst, sym, true}
+use Rattle.std.proofs.Common.{◌≡◌, ◌⊎◌, ◌<◌, ◌≤◌, ◌==◌, ◌&&◌, ◌||◌, [], ◌∷◌, ◌++◌, ◌∙◌, ℕ, Bool, List, None, Option, Some, ap, append-nil, arith, cond, false, inl, inr, refl, subst, sym, true}
 use Rattle.std.proofs.lemmas.List.Elements.{filter-append}
-use Rattle.std.specs.List.{AllByRecursion, list_any}
+use Rattle.std.specs.List.{list_any}
 use Rattle.lego_base.specs.Files.{file_bytes, is_file}
 use Rattle.lego_msg.specs.Deliveries.{taken}
 use Rattle.lego_msg.specs.Files.{Files, block_of}
-use Rattle.lego_msg.specs.Operations.{is_write, patch_of}
-use Rattle.lego_msg.specs.Places.{is_among, is_issuer, memory, same_place, secondary_of}
+use Rattle.lego_msg.specs.Operations.{patch_of}
+use Rattle.lego_msg.specs.Places.{is_among, is_issuer, memory, same_place}
 use Rattle.lego_msg.specs.Plain.{effect}
-use Rattle.lego_msg.specs.State.{Block, Disk, Mem}
+use Rattle.lego_msg.specs.State.{Block}
 use Rattle.lego_msg.specs.Track.{Track, healing_move, memory_count}
 use Rattle.lego_msg.specs.declared.body.Body.{Body}
 use Rattle.lego_msg.specs.declared.message.Message.{Message}
@@ -16,10 +16,10 @@ use Rattle.lego_msg.specs.declared.operation.Open.{Open}
 use Rattle.lego_msg.specs.declared.place.Place.{Place}
 use Rattle.lego_rest.specs.Answers.{all_pending, answers_to}
 use Rattle.lego_rest.specs.Fits.{BlockFits, background, changes_block, is_background}
-use Rattle.lego_rest.specs.Parts.{Page, new_share, old_share, second_part, share, sides_of}
-use Rattle.lego_rest.specs.Pending.{AnAnswer, IsAway, IsPlace, IsUp, MayPend, OfOperation, Says}
+use Rattle.lego_rest.specs.Parts.{Page, share}
+use Rattle.lego_rest.specs.Pending.{AnAnswer, IsAway, MayPend, OfOperation, Says}
 use Rattle.rest_laws.proofs.Delivered.{left_of, of_first}
-use Rattle.rest_laws.proofs.Filed.{FileGives, answers_now}
+use Rattle.rest_laws.proofs.Filed.{FileGives}
 use Rattle.rest_laws.proofs.Net.{any-taken}
 use Rattle.rest_laws.proofs.Opened.{every, issuer_there, numbered_is_no_batch}
 use Rattle.rest_laws.proofs.Stepping.{batch_stays}
@@ -103,8 +103,8 @@ module _ (lost : Option ℕ) (t : Track) (o : Open) (m : Message) (reaches : Rea
         below = let less = fit.below in omega (arith, less, next);
         same = λ is. let stay = stays b fit.below (changes_none b fit.still) is in fit.same stay.there ∙ sym stay.same;
         still = of_first (λ (x : Message). changes_block b x.body) (left_of t) (r ∷ []) (ap (λ (x : Bool). x || false) (still b))
-          ∙ ap (list_any (λ (x : Message). changes_block b x.body)) left
-          ∙ changes_less (record t { current = Some o }) m reaches.may b fit.still;
+            ∙ ap (list_any (λ (x : Message). changes_block b x.body)) left
+            ∙ changes_less (record t { current = Some o }) m reaches.may b fit.still;
       }
 
   -- where the files stay

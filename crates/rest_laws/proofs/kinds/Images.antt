@@ -1,24 +1,20 @@
 -- Rows by which storage changes images and answers that it is done, where no log has a patch of a page that changes.
-use Rattle.std.proofs.Common.{◌≡◌, ◌⊎◌, ◌+◌, ◌/◌, ◌<◌, ◌==◌, ◌&&◌, ◌||◌, [], ◌∷◌, ◌++◌, ◌∙◌, ℕ, Bool, List, None, Option, Some, ap, append-nil, cond, false, inl, inr, refl, slice_get, subst, suc, sym, take, true, zero}
-use Rattle.std.proofs.lemmas.Bool.{eq-eqb, eqb-true}
+use Rattle.std.proofs.Common.{◌≡◌, ◌⊎◌, ◌/◌, ◌<◌, ◌==◌, ◌&&◌, [], ◌∷◌, ◌++◌, ◌∙◌, ℕ, Bool, List, None, Option, Some, ap, append-nil, cond, false, inl, inr, refl, slice_get, suc, sym, take, true, zero}
+use Rattle.std.proofs.lemmas.Bool.{eqb-true}
 use Rattle.std.specs.List.{AllByRecursion, list_any}
 use Rattle.lego_base.specs.Keys.{Key, key_at, without}
-use Rattle.lego_base.specs.declared.ids.OpNo.{OpNo}
 use Rattle.lego_base.specs.declared.records.PageImage.{PageImage}
 use Rattle.lego_base.specs.declared.records.Patch.{Patch}
-use Rattle.lego_msg.specs.Deliveries.{taken}
-use Rattle.lego_msg.specs.Granted.{asks_clear}
 use Rattle.lego_msg.specs.Maps.{overlaid, owner_of, page_in, page_key}
 use Rattle.lego_msg.specs.Places.{is_among, secondary_of}
 use Rattle.lego_msg.specs.Plain.{effect}
 use Rattle.lego_msg.specs.State.{Mem}
-use Rattle.lego_msg.specs.Table.{reply}
 use Rattle.lego_msg.specs.Track.{Track, memory_count}
 use Rattle.lego_msg.specs.declared.message.Message.{Message}
 use Rattle.lego_msg.specs.declared.operation.Open.{Open}
 use Rattle.lego_rest.specs.Answers.{all_pending}
 use Rattle.lego_rest.specs.Fits.{BatchFits, HasBatch, PagesFit, background, batch_message, changes_block, over, receipt}
-use Rattle.lego_rest.specs.Parts.{Page, new_share, old_share, owns, second_part, share, sides_of}
+use Rattle.lego_rest.specs.Parts.{Page, new_share, owns, second_part, sides_of}
 use Rattle.lego_rest.specs.Pending.{IsUp, Says}
 use Rattle.rest_laws.proofs.Delivered.{left_of, of_first}
 use Rattle.rest_laws.proofs.Filed.{FileGives}
@@ -85,8 +81,8 @@ module _ (lost : Option ℕ) (t : Track) (o : Open) (m : Message) (reaches : Rea
       below = fit.below;
       same = fit.same;
       still = of_first (λ (x : Message). changes_block b x.body) (left_of t) (done ∷ []) refl
-        ∙ ap (list_any (λ (x : Message). changes_block b x.body)) (sym (ap (λ (ms : List Message). left_of t ++ ms) reaches.may.owed ∙ append-nil (left_of t)))
-        ∙ changes_less (record t { current = Some o }) m reaches.may b fit.still;
+          ∙ ap (list_any (λ (x : Message). changes_block b x.body)) (sym (ap (λ (ms : List Message). left_of t ++ ms) reaches.may.owed ∙ append-nil (left_of t)))
+          ∙ changes_less (record t { current = Some o }) m reaches.may b fit.still;
     }) s.blocks (reaches.middle.memories j s up at).blocks;
     files = inl refl;
     told = λ now. files reaches.middle.disk.files;

@@ -1,5 +1,5 @@
 -- The rows of a kind: what each message of the open operation makes of the memory or the storage that gets it.
-use Rattle.std.proofs.Common.{◌≡◌, ◌++◌, ◌∙◌, ℕ, List, None, Option, Some, ap, false, subst, sym, true}
+use Rattle.std.proofs.Common.{◌≡◌, ◌∙◌, ℕ, Option, Some, ap, false, subst, sym, true}
 use Rattle.std.specs.List.{AllByRecursion}
 use Rattle.lego_msg.specs.Deliveries.{MayDeliver}
 use Rattle.lego_msg.specs.Operations.{asks_of, messages_of}

@@ -1,31 +1,27 @@
 -- Rows by which only a memory's log, its batch and its waiting drains change: the log rule.
-use Rattle.std.proofs.Common.{◌≡◌, ◌⊎◌, ◌+◌, ◌/◌, ◌<◌, ◌≤◌, ◌==◌, ◌&&◌, ◌||◌, [], ◌∷◌, ◌++◌, ◌∙◌, ℕ, Bool, List, None, Option, Some, ap, append-nil, arith, cond, eqb, false, inl, inr, leb, length, length-append, ltb, refl, subst, sym, take, true}
-use Rattle.std.proofs.lemmas.Bool.{eq-eqb, eqb-true, lt-ltb, ltb-true}
+use Rattle.std.proofs.Common.{◌≡◌, ◌⊎◌, ◌+◌, ◌/◌, ◌<◌, ◌≤◌, ◌==◌, ◌&&◌, ◌||◌, [], ◌∷◌, ◌++◌, ◌∙◌, ℕ, Bool, List, Option, Some, ap, append-nil, arith, cond, false, inl, inr, leb, length, length-append, ltb, refl, subst, sym, take, true}
+use Rattle.std.proofs.lemmas.Bool.{eq-eqb, eqb-true, lt-ltb}
 use Rattle.std.proofs.lemmas.Bool.Decides.{eqb_tells}
 use Rattle.std.proofs.lemmas.List.Elements.{filter-append}
-use Rattle.std.proofs.lemmas.List.Folds.{list_any-append}
 use Rattle.std.proofs.lemmas.List.{take-append-le, take_all}
 use Rattle.std.specs.List.{AllByRecursion, list_any}
 use Rattle.lego_base.specs.declared.records.PageImage.{PageImage}
 use Rattle.lego_base.specs.declared.records.Patch.{Patch}
 use Rattle.lego_msg.specs.Granted.{IsClear, PatchFits}
-use Rattle.lego_msg.specs.Operations.{is_write, patch_of}
-use Rattle.lego_msg.specs.Places.{cache_of, memory, same_place, secondary_of}
+use Rattle.lego_msg.specs.Operations.{patch_of}
+use Rattle.lego_msg.specs.Places.{memory, same_place}
 use Rattle.lego_msg.specs.State.{Block, Mem, Waiter}
 use Rattle.lego_msg.specs.Table.{backup, batched, is_batch_due}
 use Rattle.lego_msg.specs.Track.{Track, healing_move, memory_count}
 use Rattle.lego_msg.specs.declared.message.Message.{Message}
 use Rattle.lego_msg.specs.declared.operation.Open.{Open}
 use Rattle.lego_rest.specs.Answers.{all_pending, answers_to}
-use Rattle.lego_rest.specs.Fits.{BatchFits, BlockFits, HasBatch, LogFits, MemFits, WaiterFits, background, batch_message, changes_block, is_background, receipt}
-use Rattle.lego_rest.specs.Parts.{Areas, Cell, Home, Page, main_part, new_share, second_part, sides_of}
-use Rattle.lego_rest.specs.Pending.{Goes, IsPlace, IsUp, MayPend, OfBackground}
-use Rattle.rest_laws.proofs.Delivered.{Given, RowGives, answers_for, left_of, of_first, speaks_of}
+use Rattle.lego_rest.specs.Fits.{BatchFits, HasBatch, LogFits, MemFits, WaiterFits, background, batch_message, changes_block, is_background, receipt}
+use Rattle.lego_rest.specs.Pending.{Goes, IsPlace, MayPend, OfBackground}
+use Rattle.rest_laws.proofs.Delivered.{RowGives, answers_for, left_of}
 use Rattle.rest_laws.proofs.Meeting.{Met, met_below, met_fits, met_holds, met_id, met_left, met_open, met_up}
 use Rattle.rest_laws.proofs.Opened.{numbered_is_no_batch}
 use Rattle.rest_laws.proofs.Replied.{Change, blocks_as_before}
-use Rattle.rest_laws.proofs.Stepping.{batch_stays}
-use Rattle.rest_laws.proofs.Truth.{both_true}
 use Rattle.lego_msg.specs.declared.body.Body.TheVariants as body
 use Rattle.lego_msg.specs.declared.place.Place.TheVariants as place
 
@@ -95,12 +91,12 @@ rule_fits pending after images s some carries quiet = by_rule (λ (p : Mem × Li
     goes due = record {
       none = λ out. absurd (omega (arith, out, some));
       once = λ out. inl (
-        filter-append (is_background s.id) pending (backup s ∷ after)
-        ∙ ap (λ (l : List Message). l ++ background s.id (backup s ∷ after)) (carries.none (none_out s due))
-        ∙ ap (λ (b : Bool). cond b (backup s ∷ background s.id after) (background s.id after)) (own_background s)
-        ∙ ap (λ (l : List Message). backup s ∷ l) (nothing_more s.id [] after quiet)
-        ∙ ap (λ (log : List Patch). record { from = memory s.id; to = place.Storage; op = record { 0 = 0 }; body = body.Backup log } ∷ []) (sym (take_all (length s.log) s.log (omega arith)))
-      );
+          filter-append (is_background s.id) pending (backup s ∷ after)
+          ∙ ap (λ (l : List Message). l ++ background s.id (backup s ∷ after)) (carries.none (none_out s due))
+          ∙ ap (λ (b : Bool). cond b (backup s ∷ background s.id after) (background s.id after)) (own_background s)
+          ∙ ap (λ (l : List Message). backup s ∷ l) (nothing_more s.id [] after quiet)
+          ∙ ap (λ (log : List Patch). record { from = memory s.id; to = place.Storage; op = record { 0 = 0 }; body = body.Backup log } ∷ []) (sym (take_all (length s.log) s.log (omega arith)))
+          );
       within = omega arith;
       waits = λ waiting. some;
     }
@@ -155,8 +151,8 @@ module _ (lost : Option ℕ) (t : Track) (o : Open) (k : ℕ) (s : Mem) (m : Mes
       by_rule (λ (p : Mem × List Message). BatchFits (left_of t ++ p.1) t.disk.images p.0 → RowGives lost t o k s p.0 p.1) (logging s log s.out drains) after
       (λ due. gives (length log) (backup (logging s log s.out drains) ∷ after) (backup_pends log s.out drains, sends) (met_id lost t o k s m met, from)
       (λ j other. filter-append (is_background j) (left_of t) (backup (logging s log s.out drains) ∷ after)
-        ∙ ap (λ (b : Bool). background j (left_of t) ++ cond b (backup (logging s log s.out drains) ∷ background j after) (background j after)) (other_background (logging s log s.out drains) k was.id j other)
-        ∙ sym (filter-append (is_background j) (left_of t) after) ∙ nothing_more j (left_of t) after (unbacked j after numbered) ∙ met_left lost t o k s m met j)
+      ∙ ap (λ (b : Bool). background j (left_of t) ++ cond b (backup (logging s log s.out drains) ∷ background j after) (background j after)) (other_background (logging s log s.out drains) k was.id j other)
+      ∙ sym (filter-append (is_background j) (left_of t) after) ∙ nothing_more j (left_of t) after (unbacked j after numbered) ∙ met_left lost t o k s m met j)
       quiet (λ e. sym (ap (λ (b : Bool). (b && same_place (memory s.id) (memory k) && same_place place.Storage o.by && answers_to (patch_of o.operation) (body.Backup log)) || answers_for o k after) (not_number o.number.0 (met_open lost t o k s m met).some)) ∙ e))
       (λ waits. gives s.out after sends from (λ j other. nothing_more j (left_of t) after (unbacked j after numbered) ∙ met_left lost t o k s m met j) quiet (λ e. e))
       (rule_fits (left_of t) after t.disk.images (logging s log s.out drains) some carries (unbacked s.id after numbered))

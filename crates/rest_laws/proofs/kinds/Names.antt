@@ -1,23 +1,16 @@
 -- Operations on names: one message to storage, which answers.
-use Rattle.std.proofs.Common.{◌≡◌, ◌⊎◌, ◌==◌, ◌||◌, [], ◌∷◌, ◌++◌, ◌∙◌, ℕ, Bool, List, None, Option, Some, ap, false, inl, inr, length, refl, subst, sym, true}
+use Rattle.std.proofs.Common.{ℕ, List, Option, ap, length, refl}
 use Rattle.lego_base.specs.Files.{file_bytes, named}
 use Rattle.lego_base.specs.declared.ids.FileNo.{FileNo}
 use Rattle.lego_msg.specs.Files.{Files}
-use Rattle.lego_msg.specs.Operations.{patch_of}
 use Rattle.lego_msg.specs.Places.{is_among}
-use Rattle.lego_msg.specs.Plain.{effect}
-use Rattle.lego_msg.specs.State.{Block}
-use Rattle.lego_msg.specs.Track.{Track, memory_count}
+use Rattle.lego_msg.specs.Track.{Track}
 use Rattle.lego_msg.specs.declared.body.Body.{Body}
 use Rattle.lego_msg.specs.declared.message.Message.{Message}
 use Rattle.lego_msg.specs.declared.operation.Open.{Open}
 use Rattle.lego_msg.specs.declared.operation.Operation.TheVariants.{AsksSize, GetsName, ListsNames}
-use Rattle.lego_rest.specs.Fits.{changes_block}
-use Rattle.lego_rest.specs.Parts.{Page, share}
-use Rattle.lego_rest.specs.Pending.{Says}
-use Rattle.rest_laws.proofs.Filed.{FileGives}
 use Rattle.rest_laws.proofs.kinds.Filing.{filed_none, issuer_answer, old_files}
-use Rattle.rest_laws.proofs.kinds.Kind.{KindRows, Reaches, StorageGives, rows_of, there}
+use Rattle.rest_laws.proofs.kinds.Kind.{KindRows, StorageGives, rows_of, there}
 use Rattle.lego_msg.specs.declared.body.Body.TheVariants as body
 use Rattle.lego_msg.specs.declared.place.Place.TheVariants as place
 

@@ -1,10 +1,9 @@
 -- Operations that make or remove a name, or free a file: one message to storage.
-use Rattle.std.proofs.Common.{◌≡◌, ◌⊎◌, ◌+◌, ◌<◌, ◌≤◌, ◌==◌, ◌||◌, [], ◌∷◌, ◌++◌, ◌∙◌, ℕ, Bool, List, None, Option, Some, ap, arith, cond, eqb, false, if◌then◌else◌, inl, inr, length, refl, subst, sym, true}
-use Rattle.std.proofs.lemmas.Bool.{eq-eqb, eqb-true}
+use Rattle.std.proofs.Common.{◌≡◌, ◌⊎◌, ◌<◌, ◌≤◌, ◌==◌, [], ◌∷◌, ◌∙◌, ℕ, Bool, List, None, Option, Some, ap, arith, cond, false, if◌then◌else◌, inl, inr, refl, subst, sym, true}
 use Rattle.std.proofs.lemmas.Bool.Decides.{eqb_tells}
 use Rattle.std.proofs.lemmas.Slice.Eq.{bytes_eq-Decides}
 use Rattle.std.specs.Str.{bytes_eq}
-use Rattle.lego_base.specs.Files.{File, file_bytes, has_name, is_before, is_file, named, with_name, without_file, without_name}
+use Rattle.lego_base.specs.Files.{File, has_name, is_before, is_file, named, with_name, without_file, without_name}
 use Rattle.lego_base.specs.declared.ids.FileNo.{FileNo}
 use Rattle.lego_base.specs.declared.records.NameEntry.{NameEntry}
 use Rattle.lego_msg.specs.Files.{Files, block_of, freed, is_file_room, made, made_where, unnamed, with_file}
@@ -21,7 +20,7 @@ use Rattle.lego_rest.specs.Fits.{changes_block}
 use Rattle.rest_laws.proofs.Filed.{FileGives}
 use Rattle.rest_laws.proofs.FileLists.{added_file, gone_file, other_file}
 use Rattle.rest_laws.proofs.kinds.Filing.{BlockStays, filed_one, issuer_answer}
-use Rattle.rest_laws.proofs.kinds.Kind.{KindRows, Reaches, StorageGives, rows_of, there}
+use Rattle.rest_laws.proofs.kinds.Kind.{KindRows, StorageGives, rows_of, there}
 use Rattle.lego_msg.specs.declared.body.Body.TheVariants as body
 use Rattle.lego_msg.specs.declared.place.Place.TheVariants as place
 use Rattle.lego_msg.specs.declared.place.Why.TheVariants as why

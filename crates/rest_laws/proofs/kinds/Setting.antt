@@ -1,5 +1,5 @@
 -- Operations that set the owner of a region at its home, or the areas of a region at its owner.
-use Rattle.std.proofs.Common.{◌≡◌, ◌⊎◌, ◌+◌, ◌/◌, ◌%◌, ◌<◌, ◌==◌, ◌&&◌, ◌||◌, [], ◌∷◌, ◌∙◌, ℕ, Bool, List, None, Option, Some, ap, arith, cond, false, inl, inr, refl, subst, sym, true}
+use Rattle.std.proofs.Common.{◌≡◌, ◌<◌, ◌==◌, ◌&&◌, [], ◌∙◌, ℕ, List, None, Option, Some, ap, false, refl, sym, true}
 use Rattle.std.proofs.Math.Nat.{mod-lt}
 use Rattle.std.proofs.lemmas.Bool.{eq-eqb, eqb-true}
 use Rattle.keyed_list.proofs.Listed.{Rises-put}
@@ -19,16 +19,16 @@ use Rattle.lego_msg.specs.declared.message.Message.{Message}
 use Rattle.lego_msg.specs.declared.operation.Open.{Open}
 use Rattle.lego_msg.specs.declared.operation.Operation.TheVariants.{SetsAreas, SetsHome}
 use Rattle.lego_msg.specs.declared.place.Role.TheVariants.{Main, Spare}
-use Rattle.lego_rest.specs.Fits.{KeptFits, MemFits, OpenFits}
-use Rattle.lego_rest.specs.Parts.{Areas, Cell, Home, Page, new_share, old_share, owns, part_of, second_part, share, sides_of}
+use Rattle.lego_rest.specs.Fits.{KeptFits, MemFits}
+use Rattle.lego_rest.specs.Parts.{Areas, Cell, Home, Page, new_share, owns, part_of, second_part, share, sides_of}
 use Rattle.rest_laws.proofs.Changed.{same_areas, same_homes}
 use Rattle.rest_laws.proofs.Delivered.{speaks_of}
 use Rattle.rest_laws.proofs.Lookup.{areas-with}
-use Rattle.rest_laws.proofs.Meeting.{Met, met_fits, met_main, met_open, met_second}
+use Rattle.rest_laws.proofs.Meeting.{met_fits, met_main, met_open, met_second}
 use Rattle.rest_laws.proofs.Replied.{all_new, keeping, replied}
 use Rattle.rest_laws.proofs.Truth.{both_true}
 use Rattle.rest_laws.proofs.kinds.Cells.{agreed, areas_form, areas_rise, owner_put, owns_this, set_cell}
-use Rattle.rest_laws.proofs.kinds.Kind.{FirstGives, KindRows, MemoryGives, here, rows_of}
+use Rattle.rest_laws.proofs.kinds.Kind.{KindRows, MemoryGives, here, rows_of}
 use Rattle.rest_laws.proofs.kinds.Twice.{first_two, is_guarded, own_stays, seconds_stay}
 use Rattle.lego_msg.specs.declared.body.Body.TheVariants as body
 

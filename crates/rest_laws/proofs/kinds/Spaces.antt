@@ -1,5 +1,5 @@
 -- The end of a space: every memory drops what it keeps of it in both roles, and storage its images.
-use Rattle.std.proofs.Common.{◌≡◌, ◌⊎◌, ◌+◌, ◌/◌, ◌<◌, ◌≤◌, ◌==◌, ◌&&◌, ◌||◌, [], ◌∷◌, ◌∙◌, ℕ, Bool, List, None, Option, Some, ap, arith, cond, false, inl, inr, not, refl, slice_get, subst, suc, sym, true, zero}
+use Rattle.std.proofs.Common.{◌≡◌, ◌+◌, ◌/◌, ◌<◌, ◌==◌, [], ◌∙◌, ℕ, None, Option, Some, ap, arith, false, not, refl, suc, true, zero}
 use Rattle.std.specs.List.{AllByRecursion}
 use Rattle.keyed_list.proofs.Listed.{Rises-without}
 use Rattle.lego_base.specs.Keys.{Key, is_of, key_at, without}
@@ -17,7 +17,7 @@ use Rattle.lego_rest.specs.Fits.{KeptFits, ListFits, MemFits}
 use Rattle.lego_rest.specs.Parts.{Areas, Cell, Home, Page, new_share, owns, part_of, second_part, sides_of}
 use Rattle.rest_laws.proofs.Delivered.{speaks_of}
 use Rattle.rest_laws.proofs.Dropping.{each_among, storage_among}
-use Rattle.rest_laws.proofs.Meeting.{Met, met_below, met_fits, met_main, met_open, met_second}
+use Rattle.rest_laws.proofs.Meeting.{met_below, met_fits, met_main, met_open, met_second}
 use Rattle.rest_laws.proofs.Replied.{all_new, keeping, replied}
 use Rattle.rest_laws.proofs.kinds.Cells.{all_those, areas_without, fewer_pages, gone_cell, owner_without, page_without, pages_left_fit}
 use Rattle.rest_laws.proofs.kinds.Images.{images_gone}

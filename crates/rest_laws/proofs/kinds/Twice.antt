@@ -1,17 +1,16 @@
 -- Operations that change what one memory h keeps: its secondary gets a message, and it gets one itself.
-use Rattle.std.proofs.Common.{◌≡◌, ◌⊎◌, ◌+◌, ◌%◌, ◌<◌, ◌≤◌, ◌==◌, ◌||◌, [], ◌∷◌, ◌∙◌, ℕ, Bool, List, Option, Some, ap, arith, false, inl, inr, refl, subst, sym, true}
+use Rattle.std.proofs.Common.{◌≡◌, ◌<◌, ◌≤◌, ◌==◌, ◌||◌, ◌∷◌, ◌∙◌, ℕ, Bool, List, Option, Some, ap, false, refl, sym, true}
 use Rattle.std.proofs.lemmas.Bool.{eq-eqb}
-use Rattle.lego_msg.specs.Operations.{targets_of}
-use Rattle.lego_msg.specs.Places.{is_among, memory, same_place, secondary_of}
+use Rattle.lego_msg.specs.Places.{is_among, memory, secondary_of}
 use Rattle.lego_msg.specs.Plain.{effect}
 use Rattle.lego_msg.specs.State.{Mem}
 use Rattle.lego_msg.specs.Track.{Track, memory_count}
 use Rattle.lego_msg.specs.declared.message.Message.{Message}
 use Rattle.lego_msg.specs.declared.operation.Open.{Open}
 use Rattle.lego_msg.specs.declared.place.Place.{Place}
-use Rattle.lego_rest.specs.Parts.{Areas, Cell, Home, Page, IsEither, main_part, new_share, old_share, second_part, share, sides_of}
+use Rattle.lego_rest.specs.Parts.{Cell, main_part, new_share, old_share, second_part, share, sides_of}
 use Rattle.rest_laws.proofs.Around.{secondaries-differ}
-use Rattle.rest_laws.proofs.Meeting.{Met, met_below, met_main, met_open, met_second}
+use Rattle.rest_laws.proofs.Meeting.{Met, met_main, met_second}
 use Rattle.rest_laws.proofs.kinds.Cells.{agreed}
 
 -- the secondary and the memory itself are the first two targets

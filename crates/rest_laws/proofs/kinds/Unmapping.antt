@@ -1,6 +1,6 @@
 -- Operations that unmap pages of a region: its areas become others at the owner and its secondary, the pages go at the
 -- owner, and their images at storage.
-use Rattle.std.proofs.Common.{◌≡◌, ◌⊎◌, ◌+◌, ◌/◌, ◌<◌, ◌==◌, ◌&&◌, ◌||◌, [], ◌∷◌, ◌∙◌, ℕ, Bool, List, None, Option, Some, ap, cond, false, inl, inr, refl, slice_get, subst, sym, true}
+use Rattle.std.proofs.Common.{◌≡◌, ◌/◌, ◌<◌, ◌==◌, ◌&&◌, ◌||◌, [], ◌∷◌, ◌∙◌, ℕ, Bool, List, None, Option, Some, ap, false, refl, sym, true}
 use Rattle.lego_base.specs.Keys.{is_page_from, key_at, without}
 use Rattle.lego_base.specs.declared.ids.MemId.{MemId}
 use Rattle.lego_base.specs.declared.ids.Pid.{Pid}
@@ -23,7 +23,7 @@ use Rattle.lego_rest.specs.Parts.{Areas, Cell, Home, Page, new_share, owns, part
 use Rattle.rest_laws.proofs.Changed.{same_unmapped}
 use Rattle.rest_laws.proofs.Delivered.{speaks_of}
 use Rattle.rest_laws.proofs.Lookup.{areas-with}
-use Rattle.rest_laws.proofs.Meeting.{Met, met_fits, met_main, met_open, met_second}
+use Rattle.rest_laws.proofs.Meeting.{met_fits, met_main, met_open, met_second}
 use Rattle.rest_laws.proofs.Replied.{all_new, keeping, replied}
 use Rattle.rest_laws.proofs.kinds.Cells.{agreed, areas_form, areas_rise, fewer_pages, gone_cell, owns_this, page_without, pages_left_fit, set_cell}
 use Rattle.rest_laws.proofs.kinds.Images.{images_gone}

@@ -1,41 +1,36 @@
 -- The write of a patch: to the owner's page, and to the log of the owner's secondary; a full log is drained first.
-use Rattle.std.proofs.Common.{◌≡◌, ◌⊎◌, ◌+◌, ◌/◌, ◌<◌, ◌≤◌, ◌==◌, ◌&&◌, ◌||◌, [], ◌∷◌, ◌++◌, ◌∙◌, ℕ, Bool, List, None, Option, Some, ap, arith, cond, false, inl, inr, leb, length, length-append, ltb, refl, subst, sym, true}
+use Rattle.std.proofs.Common.{◌≡◌, ◌⊎◌, ◌+◌, ◌/◌, ◌<◌, ◌==◌, ◌&&◌, [], ◌∷◌, ◌++◌, ◌∙◌, ℕ, Bool, List, None, Option, Some, ap, arith, cond, false, inl, inr, leb, length, length-append, ltb, refl, subst, sym, true}
 use Rattle.std.proofs.lemmas.Bool.{eq-eqb, eqb-true, leb-true, ltb-true}
-use Rattle.std.specs.List.{AllByRecursion}
-use Rattle.keyed_list.proofs.Listed.{Rises-put}
 use Rattle.lego_base.specs.Pieces.{laid_over}
 use Rattle.lego_base.specs.declared.ids.MemId.{MemId}
 use Rattle.lego_base.specs.declared.records.HomeEntry.{HomeEntry}
-use Rattle.lego_base.specs.declared.records.PageImage.{PageImage}
 use Rattle.lego_base.specs.declared.records.Patch.{Patch}
 use Rattle.lego_msg.specs.Granted.{IsClear, PatchFits, WriteFits}
-use Rattle.lego_msg.specs.Maps.{bytes_or_zeros, laid_on, overlaid, page_in, page_key, patched}
+use Rattle.lego_msg.specs.Maps.{bytes_or_zeros, laid_on, overlaid, page_in, patched}
 use Rattle.lego_msg.specs.Places.{is_among, memory, secondary_of}
 use Rattle.lego_msg.specs.Plain.{Plain, with_patch}
-use Rattle.lego_msg.specs.State.{Kept, Mem}
-use Rattle.lego_msg.specs.Table.{answers, batched, log_row, reply, within_frames}
-use Rattle.lego_msg.specs.Track.{Track, healing_move, memory_count}
-use Rattle.lego_msg.specs.declared.body.Body.{Body}
+use Rattle.lego_msg.specs.State.{Mem}
+use Rattle.lego_msg.specs.Table.{answers, batched, reply}
+use Rattle.lego_msg.specs.Track.{Track, memory_count}
 use Rattle.lego_msg.specs.declared.message.Message.{Message}
 use Rattle.lego_msg.specs.declared.operation.Open.{Open}
 use Rattle.lego_msg.specs.declared.operation.Operation.TheVariants.{Writes}
 use Rattle.lego_msg.specs.declared.operation.Origin.{Origin}
 use Rattle.lego_msg.specs.declared.place.Place.{Place}
-use Rattle.lego_rest.specs.Answers.{answers_to}
-use Rattle.lego_rest.specs.Fits.{LogFits, MemFits, OpenFits, PagesFit, PlainFits, over}
-use Rattle.lego_rest.specs.Parts.{Areas, Cell, Home, Page, main_part, new_share, old_share, owns, part_of, second_part, share, sides_of}
+use Rattle.lego_rest.specs.Fits.{LogFits, MemFits, PlainFits}
+use Rattle.lego_rest.specs.Parts.{Areas, Cell, Home, Page, new_share, owns, part_of, second_part, share, sides_of}
 use Rattle.lego_rest.specs.Pending.{AnAnswer, First, HandedOn, OfOpen, Reaction, Says}
-use Rattle.rest_laws.proofs.Changed.{laid_length, same_patched, whole_page}
-use Rattle.rest_laws.proofs.Delivered.{RowGives, answers_for, speaks_of}
+use Rattle.rest_laws.proofs.Changed.{same_patched}
+use Rattle.rest_laws.proofs.Delivered.{RowGives, answers_for}
 use Rattle.rest_laws.proofs.Lookup.{page-overlaid, page-patched}
-use Rattle.rest_laws.proofs.Meeting.{Met, memory_same, met_fits, met_holds, met_main, met_open, met_second, met_some, met_up}
+use Rattle.rest_laws.proofs.Meeting.{met_fits, met_holds, met_main, met_open, met_second, met_some}
 use Rattle.rest_laws.proofs.Opened.{all_both}
 use Rattle.rest_laws.proofs.Pages.{over_append, over_twice}
 use Rattle.rest_laws.proofs.Replied.{Change, all_new, answer_pends, keeping, none_changes, replied}
 use Rattle.rest_laws.proofs.Truth.{both_true}
 use Rattle.rest_laws.proofs.kinds.Cells.{agreed, owns_this, patched_fit}
 use Rattle.rest_laws.proofs.kinds.Draining.{drain_gives}
-use Rattle.rest_laws.proofs.kinds.Kind.{FirstGives, KindRows, MemoryGives, StorageGives, here, no_answer_here, no_answer_there, storage_apart}
+use Rattle.rest_laws.proofs.kinds.Kind.{KindRows, MemoryGives, StorageGives, here, no_answer_here, no_answer_there, storage_apart}
 use Rattle.rest_laws.proofs.kinds.Logging.{carries_on, logging, ruled}
 use Rattle.rest_laws.proofs.kinds.Twice.{first_two, is_guarded, own_stays, seconds_stay}
 use Rattle.lego_msg.specs.declared.body.Body.TheVariants as body
@@ -75,7 +70,7 @@ module _ (lost : Option ℕ) (t : Track) (o : Open) (origin : Origin) (patch : P
     other j differ c = same_patched (memory_count t.shape) t.owners t.plain patch owner j fits.owned differ c
 
     -- the page's region is owned by whom the operation names
-    owned : (j pid vpn : ℕ) → owner.0 ≡ j → (patch.pid.0 == pid && patch.vpn.0 == vpn) ≡ true → owns t.owners j pid (vpn / 512) ≡ true
+    pub owned : (j pid vpn : ℕ) → owner.0 ≡ j → (patch.pid.0 == pid && patch.vpn.0 == vpn) ≡ true → owns t.owners j pid (vpn / 512) ≡ true
     owned j pid vpn is this =
         let same = both_true (patch.pid.0 == pid) (patch.vpn.0 == vpn) this in
         ap (λ (q : ℕ). owns t.owners q pid (vpn / 512)) (sym is)
