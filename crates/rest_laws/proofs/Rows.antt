@@ -1,13 +1,11 @@
 -- A worked list: from the beginning a look-up of a name leads back to rest, by the laws.
-use Rattle.std.proofs.Common.{◌≡◌, ◌+◌, ◌<◌, [], ◌∷◌, ◌++◌, ℕ, List, None, Some, arith, length, refl, slice_get, true}
-use Rattle.std.specs.List.{AllByRecursion}
-use Rattle.lego_base.specs.declared.ids.OpNo.{OpNo}
+use Rattle.std.proofs.Common.{◌≡◌, [], ◌∷◌, ◌++◌, List, None, arith, refl}
 use Rattle.lego_base.specs.declared.records.Patch.{Patch}
 use Rattle.lego_base.specs.declared.shape.Shape.{Shape}
 use Rattle.lego_msg.proofs.Rows.{two}
 use Rattle.lego_msg.proofs.Coming.{played-is-legal}
 use Rattle.lego_msg.specs.Granted.{IsClear}
-use Rattle.lego_msg.specs.Marks.{Call, Mark, Order, order}
+use Rattle.lego_msg.specs.Marks.{Call, Order, order}
 use Rattle.lego_msg.specs.Next.{played}
 use Rattle.lego_msg.specs.Run.{run}
 use Rattle.lego_msg.specs.Track.{Track, start}
