@@ -42,3 +42,4 @@ pub mod Forward
 pub mod Refusing
 pub mod Exceeding
 pub mod Caused
+mod Rows
