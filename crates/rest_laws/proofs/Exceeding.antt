@@ -92,7 +92,7 @@ module _ (t : Track) (one : Open) (k : ℕ) (s : Mem) (at : slice_get t.mems k �
       here = memory_same k owner.0 (sym to ∙ ap (λ (y : Message). y.to) e)
 
       page : (p v : ℕ) → page_in (copied_pages parent.0 child regions s.pages) p v ≡ cond (owns t.owners owner.0 p (v / 512)) ((effect (op.Copies parent child regions owner) t.plain).page p v) None
-      page p v = pages_copied_in parent.0 child (eqb_sym child.0 parent.0 ∙ middle.current.0.fits.0) regions s.pages p v (middle.forms k s at).pages ∙ pages_new None t one parent child regions owner middle.current.0.fits.0 middle.current.0.fits.1 middle.current.0.requests.1.0.there (page_in s.pages) (λ p v. (middle.memories owner.0 s tt (ap (slice_get t.mems) (sym here) ∙ at)).part.either (Page p v)) p v
+      page p v = pages_copied_in parent.0 child (eqb_sym child.0 parent.0 ∙ middle.current.0.fits.0.0) regions s.pages p v (middle.forms k s at).pages ∙ pages_new None t one parent child regions owner middle.current.0.fits.0.0 middle.current.0.fits.1 middle.current.0.requests.1.0.there (page_in s.pages) (λ p v. (middle.memories owner.0 s tt (ap (slice_get t.mems) (sym here) ∙ at)).part.either (Page p v)) p v
   excess (op.Copies parent child regions owner) middle x to (inr (inr (inl e))) more = absurd (subst (Exceeds s) (ap (λ (y : Message). y.body) e) more)
   excess (op.Copies parent child regions owner) middle x to (inr (inr (inr nobody))) more = absurd nobody
   excess (op.Drops pid) middle x to among more = absurd (all_among (λ (y : Message). Exceeds s y.body → ⊥) (messages_of one.by one.number (asks_of (memory_count t.shape) (op.Drops pid))) x among (each_small s one.by one.number (memory_count t.shape) 0 (body.DropSpace pid) (body.ImageFree pid) (λ e. e) (λ e. e)) more)
