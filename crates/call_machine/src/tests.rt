@@ -5,7 +5,7 @@ ghost use Rattle.linux_model.specs.Effects.{Effect, AsksSpan};
 ghost use Rattle.linux_model.specs.Held.{Held};
 ghost use Rattle.call_machine.specs.Effects.{copied, copied_in};
 ghost use Rattle.call_machine.specs.Lawful.{Lawful, Led, holding};
-ghost use Rattle.call_machine.specs.Tried.{bare};
+ghost use Rattle.call_machine.specs.Tried.{held_by};
 
 use crate::machine::Machine;
 use area_list::Areas;
@@ -14,24 +14,32 @@ use lego_base::{Bytes, FileNo, Halt, Pid, Vpn};
 use std::alloc::Global;
 use std::test::Fail;
 
-// Nothing is mapped, there is no file, and there is room for neither.
+// Nothing is mapped, there is no file, and there is room for neither. A stuck machine holds a page in each space, and a file,
+// and stops at every call.
 #[derive(Drop)]
 struct Bare {
+    stuck: bool,
     shown: usize, // bytes that were put out
 }
 
 impl Machine for Bare {
-    ghost held = { λ m. bare };
+    ghost held = { λ m. held_by m.stuck };
 
-    ghost does = { λ a b es. Led bare bare es };
+    ghost does = { λ a b es. Led (held_by a.stuck) (held_by b.stuck) es };
 
     ghost stops = { λ a b es. Unit {0} };
 
     fn check_span(&mut self, _pid: Pid, _at: u64, len: u64, _need: u8) -> Result<bool, Halt> {
+        if self.stuck {
+            return Err(Halt::NoMemory);
+        }
         Ok(len == 0)
     }
 
     fn areas(&mut self, alloc: Global, _pid: Pid) -> Result<Areas, Halt> {
+        if self.stuck {
+            return Err(Halt::NoMemory);
+        }
         match Areas::new(alloc) {
             Ok(areas) => Ok(areas),
             Err(_) => Err(Halt::NoMemory),
@@ -45,6 +53,9 @@ impl Machine for Bare {
         _at: u64,
         len: u64,
     ) -> Result<Option<Bytes>, Halt> {
+        if self.stuck {
+            return Err(Halt::NoMemory);
+        }
         if len > 0 {
             return Ok(None);
         }
@@ -81,6 +92,9 @@ impl Machine for Bare {
     }
 
     fn find(&mut self, _name: &[u8]) -> Result<Option<FileNo>, Halt> {
+        if self.stuck {
+            return Err(Halt::NoMemory);
+        }
         Ok(None)
     }
 
@@ -89,10 +103,16 @@ impl Machine for Bare {
     }
 
     fn unlink(&mut self, _name: &[u8]) -> Result<(), Halt> {
+        if self.stuck {
+            return Err(Halt::NoMemory);
+        }
         Ok(())
     }
 
     fn free(&mut self, _file: FileNo) -> Result<(), Halt> {
+        if self.stuck {
+            return Err(Halt::NoMemory);
+        }
         Ok(())
     }
 
@@ -116,7 +136,7 @@ impl Machine for Bare {
         self.shown = self.shown.wrapping_add(bytes.len());
     }
 
-    ghost lawful = { holding (λ m. bare) };
+    ghost lawful = { holding (λ m. held_by m.stuck) };
 }
 
 // A buffer is checked, and then read: the areas that it meets are asked for once.
@@ -137,12 +157,21 @@ fn checked_copy<M: Machine>(
 
 #[test]
 fn a_bare_machine_answers_what_it_holds(rt: HostRuntime) -> Result<(), Fail> {
-    let mut bare = Bare { shown: 0 };
+    let mut bare = Bare {
+        stuck: false,
+        shown: 0,
+    };
     let copied = checked_copy(&mut bare, rt.alloc(), Pid(1), 4096, 1)?;
     assert!(rt; copied.is_none());
     let found = bare.find(b"f")?;
     assert!(rt; found.is_none());
     bare.put_out(Stream::Out, b"hi");
     assert_eq!(rt; bare.shown, 2);
+    let mut stuck = Bare {
+        stuck: true,
+        shown: 0,
+    };
+    assert!(rt; stuck.size(FileNo(0)).is_err());
+    assert!(rt; checked_copy(&mut stuck, rt.alloc(), Pid(1), 4096, 1).is_err());
     Ok(())
 }
