@@ -4,6 +4,7 @@ pub mod Showing
 pub mod Owning
 pub mod Wholes
 pub mod Blocks
+pub mod Reading
 pub mod Areas
 pub mod Owners
 pub mod Mapped

@@ -1,13 +1,14 @@
 -- What a reader may ask of the script.
-use Rattle.std.specs.Prelude.{◌≡◌, ◌==◌, ◌<◌, ◌≤◌, ◌+◌, ◌*◌, ◌/◌, ◌||◌, ℕ, Bool, false, true, List, [], ◌∷◌, ◌++◌, Some, is_some, length}
+use Rattle.std.specs.Prelude.{◌≡◌, ◌==◌, ◌<◌, ◌≤◌, ◌+◌, ◌*◌, ◌/◌, ◌%◌, ◌||◌, ℕ, Bool, false, true, List, [], ◌∷◌, ◌++◌, Some, is_some, length}
 use Rattle.lego_base.specs.declared.perms.Perms.{Perms}
 use Rattle.lego_base.specs.declared.records.Area.{Area}
 use Rattle.lego_base.specs.declared.shape.Shape.{Shape}
 use Rattle.lego_base.specs.declared.sizes.TheConstants.{PAGES_END}
 use Rattle.lego_base.specs.Files.{file_bytes, with_file_bytes}
-use Rattle.lego_base.specs.Pieces.{written_at}
+use Rattle.lego_base.specs.Pieces.{piece, written_at}
 use Rattle.lego_base.specs.Space.{Space, perms_of}
 use Rattle.area_list.specs.Runs.{IsCanonical, joined}
+use Rattle.lego_msg.specs.Files.{block_of}
 use Rattle.lego_msg.specs.Plain.{Plain, effect, with_files}
 use Rattle.placement.specs.Owners.{Placing, Inherits, Drops as Ends, placed_all}
 use Rattle.lego_msg.specs.Laws.{shows}
@@ -15,7 +16,7 @@ use Rattle.lego_msg.specs.Marks.{Mark}
 use Rattle.linux_model.specs.Effects.{Effect, Kind, Store, CopyOut, Writes, Maps, Protects, Copies, Drops, applies}
 use Rattle.linux_model.specs.State.{Kernel}
 use Rattle.linux_model.specs.Held.{held_in, held_after}
-use Rattle.ex_memory.specs.Cuts.{BLOCK, Chunk, chunks}
+use Rattle.ex_memory.specs.Cuts.{BLOCK, Chunk, Span, chunks, spans}
 use Rattle.ex_memory.specs.Now.{Now, at_start, pid_no, page_owner, space_of}
 use Rattle.ex_memory.specs.Touches.{write_parts, refused_parts, walked}
 use Rattle.ex_memory.specs.Regions.{part_in, placings}
@@ -55,6 +56,15 @@ abbrev pub BlocksMakeTheFile : Type 0
 BlocksMakeTheFile =
     (file off : ℕ) (bytes : List ℕ) (f : Plain) → 0 < length bytes
     → blocks_put file (chunks BLOCK off bytes) f ≡ with_files (record f.files { files = with_file_bytes f.files.files file (written_at (file_bytes f.files.files file) off bytes) }) f
+
+-- what the blocks of a read answer, one after the other
+abbrev pub blocks_read : List ℕ → List Span → List ℕ
+blocks_read bytes [] = []
+blocks_read bytes (x ∷ cut) = piece (block_of bytes (x.at / BLOCK)) (x.at % BLOCK) x.size ++ blocks_read bytes cut
+
+-- The blocks of a read that lies within its file give what the read gives.
+abbrev pub BlocksGiveTheRead : Type 0
+BlocksGiveTheRead = (bytes : List ℕ) (off n : ℕ) → off + n ≤ length bytes → blocks_read bytes (spans BLOCK off n) ≡ piece bytes off n
 
 -- ---- owners
 

@@ -6,7 +6,7 @@
 //! contracts.
 #![tactic(auto)]
 
-ghost use Rattle.ex_memory.specs.Laws.{AskedAreasAreAll, BlocksMakeTheFile, MappedIsOwned, OwnersGoByTurns, PartsMakeTheWhole, ScriptGoesWithTheKernel, ScriptShowsTheFlatRun, ScriptsJoin};
+ghost use Rattle.ex_memory.specs.Laws.{AskedAreasAreAll, BlocksGiveTheRead, BlocksMakeTheFile, MappedIsOwned, OwnersGoByTurns, PartsMakeTheWhole, ScriptGoesWithTheKernel, ScriptShowsTheFlatRun, ScriptsJoin};
 
 /// The script of effects and then of others is the one and then the other.
 pub fn scripts_join()
@@ -32,6 +32,11 @@ pub fn parts_make_the_whole()
 /// The blocks of a write, one after the other, make of a file what the write makes.
 pub fn blocks_make_the_file()
     ensures { BlocksMakeTheFile }
+{}
+
+/// The blocks of a read that lies within its file give what the read gives.
+pub fn blocks_give_the_read()
+    ensures { BlocksGiveTheRead }
 {}
 
 /// Owners are those of the rule of placement, by the count of assignments over the whole run.
