@@ -2,6 +2,7 @@ pub mod Joins
 pub mod Shapes
 pub mod Showing
 pub mod Owning
+pub mod Pieces
 pub mod Wholes
 pub mod Blocks
 pub mod Reading

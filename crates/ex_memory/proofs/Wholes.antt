@@ -12,6 +12,7 @@ use Rattle.ex_memory.specs.Cuts.{LINE, Span, Chunk, spans, chunks, chunks_in, un
 use Rattle.ex_memory.specs.Now.{Now}
 use Rattle.ex_memory.specs.Touches.{Part, part_of, probe_of, probe_at, passed_part, refused_in, refused_parts, store_parts, part_held, part_passed, walked, need_of}
 use Rattle.ex_memory.specs.Laws.{PartsMakeTheWhole}
+use Rattle.ex_memory.proofs.Pieces.{reading_parts}
 
 -- ---- what parts make of spaces
 
@@ -131,6 +132,7 @@ refused_passes kind pid space (x ∷ cut) =
 
 pub wholes : PartsMakeTheWhole
 wholes = record {
+  reads = reading_parts;
   stores = λ n pid at bytes. walk_holds n (store_parts pid (chunks LINE at bytes)) ∙ store_holds (ltb 1 (length (chunks LINE at bytes))) pid (chunks LINE at bytes) n.held ∙ whole pid at bytes n.held;
   copies = λ n pid at bytes. walk_holds n (map (part_of pid shown.CopyOut) (chunks LINE at bytes)) ∙ copies_lay pid (chunks LINE at bytes) n.held ∙ whole pid at bytes n.held;
   refusals = λ n kind pid at size space. walk_holds n (refused_parts kind pid at size space) ∙ refused_passes kind pid space (spans LINE at size) n.held;

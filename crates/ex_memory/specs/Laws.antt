@@ -1,12 +1,12 @@
 -- What a reader may ask of the script.
-use Rattle.std.specs.Prelude.{◌≡◌, ◌==◌, ◌<◌, ◌≤◌, ◌+◌, ◌*◌, ◌/◌, ◌%◌, ◌||◌, ℕ, Bool, false, true, List, [], ◌∷◌, ◌++◌, Some, is_some, length}
+use Rattle.std.specs.Prelude.{◌≡◌, ◌==◌, ◌<◌, ◌≤◌, ◌+◌, ◌*◌, ◌/◌, ◌%◌, ◌||◌, ℕ, Bool, false, true, List, [], ◌∷◌, ◌++◌, Some, is_some, length, map}
 use Rattle.lego_base.specs.declared.perms.Perms.{Perms}
 use Rattle.lego_base.specs.declared.records.Area.{Area}
 use Rattle.lego_base.specs.declared.shape.Shape.{Shape}
 use Rattle.lego_base.specs.declared.sizes.TheConstants.{PAGES_END}
 use Rattle.lego_base.specs.Files.{file_bytes, with_file_bytes}
 use Rattle.lego_base.specs.Pieces.{piece, written_at}
-use Rattle.lego_base.specs.Space.{Space, perms_of}
+use Rattle.lego_base.specs.Space.{Space, bytes_at, perms_of}
 use Rattle.area_list.specs.Runs.{IsCanonical, joined}
 use Rattle.lego_msg.specs.Files.{block_of}
 use Rattle.lego_msg.specs.Plain.{Plain, effect, with_files}
@@ -16,9 +16,9 @@ use Rattle.lego_msg.specs.Marks.{Mark}
 use Rattle.linux_model.specs.Effects.{Effect, Kind, Store, CopyOut, Writes, Maps, Protects, Copies, Drops, applies}
 use Rattle.linux_model.specs.State.{Kernel}
 use Rattle.linux_model.specs.Held.{held_in, held_after}
-use Rattle.ex_memory.specs.Cuts.{BLOCK, Chunk, Span, chunks, spans}
+use Rattle.ex_memory.specs.Cuts.{BLOCK, LINE, Chunk, Span, chunks, spans}
 use Rattle.ex_memory.specs.Now.{Now, at_start, pid_no, page_owner, space_of}
-use Rattle.ex_memory.specs.Touches.{write_parts, refused_parts, walked}
+use Rattle.ex_memory.specs.Touches.{Part, line_parts, shown_kind, write_parts, refused_parts, walked}
 use Rattle.ex_memory.specs.Regions.{part_in, placings}
 use Rattle.ex_memory.specs.Script.{script, passed, all_passed, writes_block}
 use Rattle.ex_memory.specs.Seen.{undropped, all_seen}
@@ -39,9 +39,14 @@ ScriptShowsTheFlatRun = (n : Now) (es : List Effect) → undropped (shows (scrip
 
 -- ---- parts and wholes
 
--- What the parts of an access make of spaces, one after the other, is what the access makes of them: a store or a copy to the
--- space writes its bytes, and what is read or refused changes nothing.
+-- a part of a read: the bytes that the space has there
+abbrev pub read_part : Kind → ℕ → Space → Span → Part
+read_part kind pid space x = record { pid = pid; at = x.at; kind = shown_kind kind; bytes = bytes_at space x.at x.size }
+
+-- A read is that of its pieces, line by line. What the parts of an access make of spaces, one after the other, is what the
+-- access makes of them: a store or a copy to the space writes its bytes, and what is read or refused changes nothing.
 pub record PartsMakeTheWhole : Type 0 where
+  pub reads : (kind : Kind) (pid at size : ℕ) (space : Space) → line_parts (shown_kind kind) pid at (bytes_at space at size) ≡ map (read_part kind pid space) (spans LINE at size)
   pub stores : (n : Now) (pid at : ℕ) (bytes : List ℕ) → (walked n (write_parts Store pid at bytes)).held ≡ held_after (Writes Store pid at bytes) n.held
   pub copies : (n : Now) (pid at : ℕ) (bytes : List ℕ) → (walked n (write_parts CopyOut pid at bytes)).held ≡ held_after (Writes CopyOut pid at bytes) n.held
   pub refusals : (n : Now) (kind : Kind) (pid at size : ℕ) (space : Space) → (walked n (refused_parts kind pid at size space)).held ≡ n.held

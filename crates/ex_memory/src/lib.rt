@@ -24,7 +24,8 @@ pub fn the_script_shows_the_flat_run()
     ensures { ScriptShowsTheFlatRun }
 {}
 
-/// The parts of an access, one after the other, make of spaces what the access makes of them.
+/// The parts of a read have the bytes of its pieces, and the parts of an access, one after the other, make of spaces what
+/// the access makes of them.
 pub fn parts_make_the_whole()
     ensures { PartsMakeTheWhole }
 {}
