@@ -15,7 +15,7 @@ pub record Span : Type 0 where
   pub at : ℕ
   pub size : ℕ
 
--- n bytes starting at an offset, in so many units
+-- n bytes starting at an offset, cut into that many pieces, one a unit
 abbrev pub spans_in : ℕ → ℕ → ℕ → ℕ → List Span
 spans_in unit zero at n = []
 spans_in unit (suc units) at n = record { at = at; size = min n (room_in unit at) } ∷ spans_in unit units (at + room_in unit at) (n - room_in unit at)

@@ -6,7 +6,7 @@ use Rattle.lego_base.specs.Space.{Space, permits, bytes_at, number_of}
 use Rattle.linux_model.specs.Limits.{EFAULT}
 use Rattle.linux_model.specs.State.{Kernel, Process}
 use Rattle.linux_model.specs.Effects.{Effect, Reads, Writes, AsksSpan, CopyIn, CopyOut}
-use Rattle.linux_model.specs.Called.{Called, behind, first}
+use Rattle.linux_model.specs.Called.{Called, following, first}
 
 -- the permissions that a copy needs
 abbrev pub to_read : ℕ
@@ -49,7 +49,7 @@ asks_pieces pid space need (x ∷ pieces) = AsksSpan pid x.at x.size ∷ (if per
 -- what comes where a buffer is good, else EFAULT
 abbrev pub where_good : Process → Kernel → ℕ → List Piece → Called → Called
 where_good p k need pieces last =
-    behind (asks_pieces p.pid (k.space p.pid) need pieces)
+    following (asks_pieces p.pid (k.space p.pid) need pieces)
     (first ((not (are_good (k.space p.pid) need pieces), EFAULT) ∷ []) last)
 
 -- the bytes in pieces, and the copies that read them

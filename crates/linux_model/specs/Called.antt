@@ -19,11 +19,11 @@ abbrev pub says : ℕ → Called
 says value = Gives [] value
 
 -- effects before what comes
-abbrev pub behind : List Effect → Called → Called
-behind before (Gives effects value) = Gives (before ++ effects) value
-behind before (Becomes effects cpu) = Becomes (before ++ effects) cpu
-behind before (Waits effects moved len) = Waits (before ++ effects) moved len
-behind before (Death effects status) = Death (before ++ effects) status
+abbrev pub following : List Effect → Called → Called
+following before (Gives effects value) = Gives (before ++ effects) value
+following before (Becomes effects cpu) = Becomes (before ++ effects) cpu
+following before (Waits effects moved len) = Waits (before ++ effects) moved len
+following before (Death effects status) = Death (before ++ effects) status
 
 -- the first of the answers whose condition holds, else what is last
 abbrev pub first : List (Bool × ℕ) → Called → Called

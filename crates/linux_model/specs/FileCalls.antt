@@ -14,7 +14,7 @@ use Rattle.linux_model.specs.Limits.{ENOENT, EBADF, EEXIST, EISDIR, EINVAL, ENFI
 use Rattle.linux_model.specs.State.{Kernel, Process}
 use Rattle.linux_model.specs.Processes.{has_reader, has_writer}
 use Rattle.linux_model.specs.Effects.{Effect, Reads, MakesFile, Unlinks, AsksSize, ReadsFile, WritesFile, CutsFile, Opens, Seeks, PutsPipe, TakesPipe, Takes, Puts, CopyIn, pipe_bytes}
-use Rattle.linux_model.specs.Called.{Called, Gives, Waits, Death, says, behind, first, given}
+use Rattle.linux_model.specs.Called.{Called, Gives, Waits, Death, says, following, first, given}
 use Rattle.linux_model.specs.Buffers.{Piece, one_piece, counted, total, part, where_good, bytes_in, copies_in, copies_out, pieces_of, to_read, to_write}
 use Rattle.linux_model.specs.Paths.{Found, Root, Named, at_path}
 use Rattle.linux_model.specs.Descriptors.{Open, opened, that, is_readable, is_writable, file_of, descriptions_left, freeing}
@@ -41,7 +41,7 @@ opens_file p fd file flags =
 abbrev pub opens_name : Process → Kernel → ℕ → ℕ → List ℕ → Option FileNo → Called
 opens_name p k fd flags name (Some file) = opens_file p fd file.0 flags
 opens_name p k fd flags name None =
-    behind (MakesFile name ∷ [])
+    following (MakesFile name ∷ [])
     (first ((nat_le FILES (length k.files), ENOSPC) ∷ []) (opens_file p fd k.next flags))
 
 abbrev pub opened_at : Process → Kernel → ℕ → Found → Called
@@ -86,7 +86,7 @@ lseek_row p k fd off whence =
     given (opened p fd k) EBADF (λ o.
     given (file_of o.is.object) ESPIPE (λ file.
     first ((nat_lt 2 whence, EINVAL) ∷ [])
-    (if whence == 2 then behind (AsksSize file ∷ []) (seeks_from o (length (file_bytes k.files file)) off) else
+    (if whence == 2 then following (AsksSize file ∷ []) (seeks_from o (length (file_bytes k.files file)) off) else
     seeks_from o (if whence == 1 then o.is.offset else 0) off)))
 
 -- ---- reading
@@ -101,7 +101,7 @@ moves_out p k pieces bytes before after =
 -- at most n bytes of a file at an offset
 abbrev pub reads_file : Process → Kernel → ℕ → ℕ → List Piece → ℕ → (ℕ → List Effect) → Called
 reads_file p k file off pieces n after =
-    behind (AsksSize file ∷ [])
+    following (AsksSize file ∷ [])
     (moves_out p k pieces (piece (file_bytes k.files file) off n)
     (ReadsFile file off (length (piece (file_bytes k.files file) off n)) ∷ [])
     (after (length (piece (file_bytes k.files file) off n))))
@@ -137,7 +137,7 @@ abbrev pub with_vector : Process → Kernel → ℕ → ℕ → (List Piece → 
 with_vector p k address count f =
     first ((nat_lt VECTOR_PIECES count, EINVAL) ∷ [])
     (where_good p k to_read (one_piece address (16 * count))
-    (behind (Reads CopyIn p.pid address (bytes_at (k.space p.pid) address (16 * count)) ∷ [])
+    (following (Reads CopyIn p.pid address (bytes_at (k.space p.pid) address (16 * count)) ∷ [])
     (within_total (pieces_of count (bytes_at (k.space p.pid) address (16 * count))) f)))
 
 -- readv(2)
@@ -165,7 +165,7 @@ writes_at p k file at pieces n after =
 abbrev pub writes_file : Process → Kernel → ℕ → ℕ → ℕ → List Piece → ℕ → (ℕ → List Effect) → Called
 writes_file p k file flags off pieces n after =
     if has flags O_APPEND
-    then behind (AsksSize file ∷ []) (writes_at p k file (length (file_bytes k.files file)) pieces n after)
+    then following (AsksSize file ∷ []) (writes_at p k file (length (file_bytes k.files file)) pieces n after)
     else writes_at p k file off pieces n after
 
 abbrev pub writes_stream : Process → Kernel → Stream → List Piece → ℕ → Called

@@ -39,19 +39,19 @@ obeyed pid cpu space None = record { effects = []; stop = Dead 4; cpu = cpu; spa
 obeyed pid cpu space (Some i) = asked pid cpu space (asks i cpu i.op)
 
 -- effects, then what ran
-abbrev pub behind : List Effect → Ran → Ran
-behind effects r = record r { effects = effects ++ r.effects }
+abbrev pub following : List Effect → Ran → Ran
+following effects r = record r { effects = effects ++ r.effects }
 
 -- one instruction: the word at pc is fetched and obeyed
 abbrev pub one : ℕ → Cpu → Space → Ran
 one pid cpu space =
     if permits space 4 cpu.pc 4
-    then behind (Reads Fetch pid cpu.pc (bytes_at space cpu.pc 4) ∷ []) (obeyed pid cpu space (decoded (number_of (bytes_at space cpu.pc 4))))
+    then following (Reads Fetch pid cpu.pc (bytes_at space cpu.pc 4) ∷ []) (obeyed pid cpu space (decoded (number_of (bytes_at space cpu.pc 4))))
     else refused (Refused Fetch pid cpu.pc 4) cpu space
 
 -- the rest follows only where the instruction before it ended with the next one to come
 abbrev pub goes_on : StepEnd → Ran → Ran → Ran
-goes_on Next r rest = behind r.effects rest
+goes_on Next r rest = following r.effects rest
 goes_on Call r rest = r
 goes_on (Dead signal) r rest = r
 

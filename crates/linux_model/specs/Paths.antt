@@ -7,7 +7,7 @@ use Rattle.kernel_objects.specs.Slots.{slot}
 use Rattle.linux_model.specs.Limits.{EBADF, EFAULT, ENOENT, ENOTDIR, ENAMETOOLONG, AT_FDCWD, NAME_BYTES, PATH_BYTES}
 use Rattle.linux_model.specs.State.{Kernel, Process}
 use Rattle.linux_model.specs.Effects.{Effect, Reads, Refused, LooksUp, CopyIn}
-use Rattle.linux_model.specs.Called.{Called, says, behind, first}
+use Rattle.linux_model.specs.Called.{Called, says, following, first}
 use Rattle.linux_model.specs.Buffers.{to_read}
 
 -- ---- text in a space
@@ -37,7 +37,7 @@ text_on false is_end pid address byte more = record { reads = Refused CopyIn pid
 text_on true true pid address byte more = record { reads = one_read pid address byte ∷ []; bytes = []; end = AtZero }
 text_on true false pid address byte more = more_text pid address byte (more (address + 1))
 
--- the text at an address, byte by byte, of at most so many bytes with its closing 0
+-- the text at an address, byte by byte, of at most a given number of bytes with its closing 0
 abbrev pub text_at : ℕ → Space → ℕ → ℕ → Text
 text_at pid space zero address = record { reads = []; bytes = []; end = Long }
 text_at pid space (suc most) address = text_on (permits space to_read address 1) (space.byte address == 0) pid address (space.byte address) (λ next. text_at pid space most next)
@@ -83,10 +83,10 @@ abbrev pub walked : List (List ℕ) → Kernel → (Found → Called) → Called
 walked [] k f = f Root
 walked (name ∷ []) k f =
     if nat_lt NAME_BYTES (length name) then says ENAMETOOLONG
-    else behind (LooksUp name ∷ []) (f (Named name (named k.names name)))
+    else following (LooksUp name ∷ []) (f (Named name (named k.names name)))
 walked (name ∷ part ∷ parts) k f =
     if nat_lt NAME_BYTES (length name) then says ENOENT
-    else behind (LooksUp name ∷ []) (says (if is_some (named k.names name) then ENOTDIR else ENOENT))
+    else following (LooksUp name ∷ []) (says (if is_some (named k.names name) then ENOTDIR else ENOENT))
 
 -- Where a path leads. A relative one begins at the working directory, or where a descriptor is open, which is no
 -- directory.
@@ -102,7 +102,7 @@ of_text p k dir path Denied f = says EFAULT
 of_text p k dir path Long f = says ENAMETOOLONG
 
 abbrev pub with_path : Process → Kernel → ℕ → Text → (Found → Called) → Called
-with_path p k dir text f = behind text.reads (of_text p k dir text.bytes text.end f)
+with_path p k dir text f = following text.reads (of_text p k dir text.bytes text.end f)
 
 -- path_resolution(7): what comes of the path at an address, or why it names nothing
 abbrev pub at_path : Process → Kernel → ℕ → ℕ → (Found → Called) → Called

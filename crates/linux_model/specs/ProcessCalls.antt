@@ -10,7 +10,7 @@ use Rattle.linux_model.specs.Limits.{ENOENT, E2BIG, ENOEXEC, ECHILD, EAGAIN, EAC
 use Rattle.linux_model.specs.State.{Kernel, Process}
 use Rattle.linux_model.specs.Processes.{Dead, process, fds_of, has_child, dead_child}
 use Rattle.linux_model.specs.Effects.{Effect, Reads, Writes, Refused, Copies, Drops, AsksSize, ReadsFile, Breaks, Forks, Dies, Reaps, CopyIn, CopyOut}
-use Rattle.linux_model.specs.Called.{Called, Gives, Becomes, Waits, Death, says, behind, first}
+use Rattle.linux_model.specs.Called.{Called, Gives, Becomes, Waits, Death, says, following, first}
 use Rattle.linux_model.specs.Buffers.{Piece, one_piece, where_good, to_read, to_write}
 use Rattle.linux_model.specs.Paths.{Found, Root, Named, Text, TextEnd, AtZero, Denied, Long, text_at, at_path}
 use Rattle.linux_model.specs.Descriptors.{closings}
@@ -89,7 +89,7 @@ if_no_fault None next = next
 if_no_fault (Some errno) next = says errno
 
 abbrev pub with_strings : Strings → (Strings → Called) → Called
-with_strings s f = behind s.reads (if_no_fault s.fault (f s))
+with_strings s f = following s.reads (if_no_fault s.fault (f s))
 
 -- the process goes on with another program: descriptors with the flag are closed, the space becomes the program's
 abbrev pub executes : Process → Kernel → Program → List (List ℕ) → List (List ℕ) → Called
@@ -108,7 +108,7 @@ abbrev pub executes_found : Process → Kernel → List (List ℕ) → List (Lis
 executes_found p k args env Root = says EACCES
 executes_found p k args env (Named name None) = says ENOENT
 executes_found p k args env (Named name (Some file)) =
-    behind (AsksSize file.0 ∷ ReadsFile file.0 0 (length (file_bytes k.files file.0)) ∷ [])
+    following (AsksSize file.0 ∷ ReadsFile file.0 0 (length (file_bytes k.files file.0)) ∷ [])
     (executes_bytes p k (file_bytes k.files file.0) args env)
 
 -- execve(2): 512 strings and 65536 bytes over both lists

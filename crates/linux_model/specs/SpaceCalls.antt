@@ -12,7 +12,7 @@ use Rattle.space_rules.specs.Place.{pages_for, place_of}
 use Rattle.linux_model.specs.Limits.{EINVAL, ENOMEM, RUNS, PAGES, MAPPING_BYTES}
 use Rattle.linux_model.specs.State.{Kernel, Process}
 use Rattle.linux_model.specs.Effects.{Effect, AsksSpace, Maps, Protects, Unmaps, Breaks}
-use Rattle.linux_model.specs.Called.{Called, Gives, says, behind, first, given}
+use Rattle.linux_model.specs.Called.{Called, Gives, says, following, first, given}
 
 abbrev pub areas_of : Process → Kernel → List Area
 areas_of p k = (k.space p.pid).areas
@@ -56,8 +56,8 @@ shrinks p k address first_page pages =
 -- the break moves from a page to another: the pages between them are mapped or unmapped
 abbrev pub brk_between : Process → Kernel → ℕ → ℕ → ℕ → Called
 brk_between p k address was to =
-    if nat_lt was to then behind (AsksSpace p.pid ∷ []) (grows p k address was (to - was)) else (
-    if nat_lt to was then behind (AsksSpace p.pid ∷ []) (shrinks p k address to (was - to)) else
+    if nat_lt was to then following (AsksSpace p.pid ∷ []) (grows p k address was (to - was)) else (
+    if nat_lt to was then following (AsksSpace p.pid ∷ []) (shrinks p k address to (was - to)) else
     Gives (moves_break p address ∷ []) address)
 
 -- brk(2), as the system call: the new break, or the old one where it can't move
@@ -72,7 +72,7 @@ brk_row p k address =
 abbrev pub munmap_row : Process → Kernel → ℕ → ℕ → Called
 munmap_row p k address len =
     first ((not (is_page_address address) || len == 0 || nat_lt USER_END (address + len), EINVAL) ∷ [])
-    (behind (AsksSpace p.pid ∷ [])
+    (following (AsksSpace p.pid ∷ [])
     (first ((has_many_runs (cut_runs (address / 4096) (pages_for len) (areas_of p k)), ENOMEM) ∷ [])
     (Gives (Unmaps p.pid (address / 4096) (pages_for len) ∷ []) 0)))
 
@@ -92,7 +92,7 @@ maps_at p k pages perms at =
 -- at an address, where the range is unmapped first
 abbrev pub maps_fixed : Process → Kernel → ℕ → ℕ → Perms → List Area → Called
 maps_fixed p k first_page pages perms cut =
-    behind (AsksSpace p.pid ∷ [])
+    following (AsksSpace p.pid ∷ [])
     (first ((is_past_limits cut || is_past_limits (put_runs first_page pages perms cut), ENOMEM) ∷ [])
     (Gives (Unmaps p.pid first_page pages ∷ Maps p.pid (put_runs first_page pages perms cut) ∷ []) (first_page * 4096)))
 
@@ -105,7 +105,7 @@ mmap_row p k address len prot flags =
     then first ((not (is_page_address address) || nat_lt address 4096, EINVAL)
     ∷ (nat_lt USER_END (address + len), ENOMEM) ∷ [])
     (maps_fixed p k (address / 4096) (pages_for len) (perms prot) (cut_runs (address / 4096) (pages_for len) (areas_of p k)))
-    else behind (AsksSpace p.pid ∷ []) (given (place_of (areas_of p k) len) ENOMEM (maps_at p k (pages_for len) (perms prot))))
+    else following (AsksSpace p.pid ∷ []) (given (place_of (areas_of p k) len) ENOMEM (maps_at p k (pages_for len) (perms prot))))
 
 -- mprotect(2)
 abbrev pub mprotect_row : Process → Kernel → ℕ → ℕ → ℕ → Called
@@ -113,7 +113,7 @@ mprotect_row p k address len prot =
     first ((not (is_page_address address) || nat_lt 7 prot, EINVAL)
     ∷ (len == 0, 0)
     ∷ (nat_lt USER_END (address + len), ENOMEM) ∷ [])
-    (behind (AsksSpace p.pid ∷ [])
+    (following (AsksSpace p.pid ∷ [])
     (first ((not (covered (areas_of p k) (address / 4096) (pages_for len) (perms 0)), ENOMEM)
     ∷ (has_many_runs (put_runs (address / 4096) (pages_for len) (perms prot) (areas_of p k)), ENOMEM) ∷ [])
     (Gives (Protects p.pid (address / 4096) (pages_for len) (put_runs (address / 4096) (pages_for len) (perms prot) (areas_of p k)) ∷ []) 0)))

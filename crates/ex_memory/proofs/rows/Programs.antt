@@ -1,4 +1,4 @@
--- Two programs of worked rows, as they are loaded.
+-- Two programs of worked examples, as they are loaded.
 use Rattle.std.specs.Prelude.{ℕ, List, [], ◌∷◌, ◌++◌, replicate}
 use Rattle.elf_image.specs.declared.image.Segment.{Segment}
 use Rattle.elf_image.specs.Image.{Program}

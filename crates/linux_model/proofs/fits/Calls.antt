@@ -19,7 +19,7 @@ use Rattle.linux_model.specs.Limits.{EAGAIN, EBADF, ECHILD, EFBIG, EINVAL, ENOEN
 use Rattle.linux_model.specs.State.{Kernel, Process}
 use Rattle.linux_model.specs.Processes.{Dead, dead_child, has_child, has_file, has_reader, has_writer}
 use Rattle.linux_model.specs.Effects.{Effect, Reads, Writes, LooksUp, Unlinks, AsksSize, AsksSpace, ReadsFile, WritesFile, CutsFile, Seeks, PutsPipe, TakesPipe, Takes, Puts, Copies, Drops, Forks, Maps, Protects, Unmaps, Breaks, CopyIn, CopyOut, apply, applies, pipe_bytes}
-use Rattle.linux_model.specs.Called.{Called, Gives, Becomes, Waits, Death, says, behind, first, given}
+use Rattle.linux_model.specs.Called.{Called, Gives, Becomes, Waits, Death, says, following, first, given}
 use Rattle.linux_model.specs.Buffers.{Piece, one_piece, counted, total, part, where_good, asks_pieces, are_good, bytes_in, copies_in, copies_out, pieces_of, to_read, to_write}
 use Rattle.linux_model.specs.Paths.{Found, Root, Named, is_relative, Text, TextEnd, AtZero, Denied, Long, text_at, of_text, at_path, walked, parts_of, without_root_parts}
 use Rattle.linux_model.specs.Descriptors.{Open, opened, that, is_readable, is_writable, file_of, closings}
@@ -43,14 +43,14 @@ Good (Becomes effects cpu) k = AllAllowed effects k
 Good (Waits effects moved len) k = AllAllowed effects k
 Good (Death effects status) k = AllAllowed effects k
 
-pub behind_good : (es : List Effect) (c : Called) (k : Kernel) → AllAllowed es k → Good c (applies es k) → Good (behind es c) k
-behind_good es (Gives effects value) k a b = allowed-append es effects k a b
-behind_good es (Becomes effects cpu) k a b = allowed-append es effects k a b
-behind_good es (Waits effects moved len) k a b = allowed-append es effects k a b
-behind_good es (Death effects status) k a b = allowed-append es effects k a b
+pub following_good : (es : List Effect) (c : Called) (k : Kernel) → AllAllowed es k → Good c (applies es k) → Good (following es c) k
+following_good es (Gives effects value) k a b = allowed-append es effects k a b
+following_good es (Becomes effects cpu) k a b = allowed-append es effects k a b
+following_good es (Waits effects moved len) k a b = allowed-append es effects k a b
+following_good es (Death effects status) k a b = allowed-append es effects k a b
 
-quiet : (es : List Effect) (c : Called) (k : Kernel) → Harmless es → Still es → Good c k → Good (behind es c) k
-quiet es c k h s g = behind_good es c k (h k) (subst (Good c) (sym (s k)) g)
+quiet : (es : List Effect) (c : Called) (k : Kernel) → Harmless es → Still es → Good c k → Good (following es c) k
+quiet es c k h s g = following_good es c k (h k) (subst (Good c) (sym (s k)) g)
 
 choice : (b : Bool) (c d : Called) (k : Kernel) → Good c k → Good d k → Good (cond b c d) k
 choice true c d k g h = g
@@ -82,7 +82,7 @@ buffer p k need pieces last g =
 walk : (parts : List (List ℕ)) (k : Kernel) (f : Found → Called) → Good (f Root) k → ((name : List ℕ) → Good (f (Named name (named k.names name))) k) → Good (walked parts k f) k
 walk [] k f root name = root
 walk (part ∷ []) k f root name = choice _ (says _) _ k tt (quiet (LooksUp part ∷ []) _ k (λ k. (tt, tt)) (λ k. refl) (name part))
-walk (part ∷ more ∷ parts) k f root name = choice (ltb NAME_BYTES (length {A = ℕ} part)) (says ENOENT) (behind (LooksUp part ∷ []) (says (cond (is_some (named k.names part)) ENOTDIR ENOENT))) k tt (quiet (LooksUp part ∷ []) (says (cond (is_some (named k.names part)) ENOTDIR ENOENT)) k (λ k. (tt, tt)) (λ k. refl) tt)
+walk (part ∷ more ∷ parts) k f root name = choice (ltb NAME_BYTES (length {A = ℕ} part)) (says ENOENT) (following (LooksUp part ∷ []) (says (cond (is_some (named k.names part)) ENOTDIR ENOENT))) k tt (quiet (LooksUp part ∷ []) (says (cond (is_some (named k.names part)) ENOTDIR ENOENT)) k (λ k. (tt, tt)) (λ k. refl) tt)
 
 of_path : (end : TextEnd) (p : Process) (k : Kernel) (dir : ℕ) (bytes : List ℕ) (f : Found → Called) → Good (f Root) k → ((name : List ℕ) → Good (f (Named name (named k.names name))) k) → Good (of_text p k dir bytes end f) k
 of_path AtZero p k dir bytes f root name = first_good ((length {A = ℕ} bytes == 0, ENOENT) ∷ (is_relative bytes && not (dir == AT_FDCWD), cond (is_some (slot {X = FdEntry} p.fds dir)) ENOTDIR EBADF) ∷ []) _ k (walk (without_root_parts (parts_of bytes)) k f root name)
@@ -122,7 +122,7 @@ pieces_read p k o pieces n = first_good ((n == 0, 0) ∷ []) _ k (object_read p 
 
 vector : (p : Process) (k : Kernel) (address count : ℕ) (f : List Piece → ℕ → Called) → ((pieces : List Piece) (n : ℕ) → Good (f pieces n) k) → Good (with_vector p k address count f) k
 vector p k address count f g =
-    first_good ((ltb VECTOR_PIECES count, EINVAL) ∷ []) _ k (buffer p k to_read (one_piece address (16 * count)) (behind (Reads CopyIn p.pid address (bytes_at (k.space p.pid) address (16 * count)) ∷ []) (first ((ltb LONGEST_FILE (total (pieces_of count (bytes_at (k.space p.pid) address (16 * count)))), EINVAL) ∷ []) (f (pieces_of count (bytes_at (k.space p.pid) address (16 * count))) (total (pieces_of count (bytes_at (k.space p.pid) address (16 * count)))))))
+    first_good ((ltb VECTOR_PIECES count, EINVAL) ∷ []) _ k (buffer p k to_read (one_piece address (16 * count)) (following (Reads CopyIn p.pid address (bytes_at (k.space p.pid) address (16 * count)) ∷ []) (first ((ltb LONGEST_FILE (total (pieces_of count (bytes_at (k.space p.pid) address (16 * count)))), EINVAL) ∷ []) (f (pieces_of count (bytes_at (k.space p.pid) address (16 * count))) (total (pieces_of count (bytes_at (k.space p.pid) address (16 * count)))))))
     (quiet (Reads CopyIn p.pid address (bytes_at (k.space p.pid) address (16 * count)) ∷ []) (first ((ltb LONGEST_FILE (total (pieces_of count (bytes_at (k.space p.pid) address (16 * count)))), EINVAL) ∷ []) (f (pieces_of count (bytes_at (k.space p.pid) address (16 * count))) (total (pieces_of count (bytes_at (k.space p.pid) address (16 * count)))))) k (λ k. (tt, tt)) (λ k. refl)
     (first_good ((ltb LONGEST_FILE (total (pieces_of count (bytes_at (k.space p.pid) address (16 * count)))), EINVAL) ∷ []) _ k (g (pieces_of count (bytes_at (k.space p.pid) address (16 * count))) (total (pieces_of count (bytes_at (k.space p.pid) address (16 * count))))))))
 
@@ -202,7 +202,7 @@ module _ (p : Process) (k : Kernel) where
 
   -- ---- spaces
 
-  asks_all : (c : Called) → Good c k → Good (behind (AsksSpace p.pid ∷ []) c) k
+  asks_all : (c : Called) → Good c k → Good (following (AsksSpace p.pid ∷ []) c) k
   asks_all c g = quiet (AsksSpace p.pid ∷ []) c k (λ k. (tt, tt)) (λ k. refl) g
 
   grow : (address first_page pages : ℕ) → Good (grows p k address first_page pages) k
@@ -217,14 +217,14 @@ module _ (p : Process) (k : Kernel) where
 
   between : (address was to : ℕ) → Good (brk_between p k address was to) k
   between address was to =
-      choice (ltb was to) (behind (AsksSpace p.pid ∷ []) (grows p k address was (to - was))) _ k (asks_all (grows p k address was (to - was)) (grow address was (to - was)))
-      (choice (ltb to was) (behind (AsksSpace p.pid ∷ []) (shrinks p k address to (was - to))) (Gives (moves_break p address ∷ []) address) k (asks_all (shrinks p k address to (was - to)) (shrink address to (was - to))) (tt, tt))
+      choice (ltb was to) (following (AsksSpace p.pid ∷ []) (grows p k address was (to - was))) _ k (asks_all (grows p k address was (to - was)) (grow address was (to - was)))
+      (choice (ltb to was) (following (AsksSpace p.pid ∷ []) (shrinks p k address to (was - to))) (Gives (moves_break p address ∷ []) address) k (asks_all (shrinks p k address to (was - to)) (shrink address to (was - to))) (tt, tt))
 
   pub brk : (address : ℕ) → Good (brk_row p k address) k
   brk address = first_good ((ltb address p.brk.base || ltb MAPPINGS_START address, p.brk.now) ∷ []) (brk_between p k address (pages_for p.brk.now) (pages_for address)) k (between address (pages_for p.brk.now) (pages_for address))
 
   pub munmap : (address len : ℕ) → Good (munmap_row p k address len) k
-  munmap address len = first_good ((not (is_page_address address) || len == 0 || ltb USER_END (address + len), EINVAL) ∷ []) (behind (AsksSpace p.pid ∷ []) (first ((has_many_runs (cut_runs (address / 4096) (pages_for len) (areas_of p k)), ENOMEM) ∷ []) (Gives (Unmaps p.pid (address / 4096) (pages_for len) ∷ []) 0))) k (asks_all (first ((has_many_runs (cut_runs (address / 4096) (pages_for len) (areas_of p k)), ENOMEM) ∷ []) (Gives (Unmaps p.pid (address / 4096) (pages_for len) ∷ []) 0)) (first_good ((has_many_runs (cut_runs (address / 4096) (pages_for len) (areas_of p k)), ENOMEM) ∷ []) (Gives (Unmaps p.pid (address / 4096) (pages_for len) ∷ []) 0) k (tt, tt)))
+  munmap address len = first_good ((not (is_page_address address) || len == 0 || ltb USER_END (address + len), EINVAL) ∷ []) (following (AsksSpace p.pid ∷ []) (first ((has_many_runs (cut_runs (address / 4096) (pages_for len) (areas_of p k)), ENOMEM) ∷ []) (Gives (Unmaps p.pid (address / 4096) (pages_for len) ∷ []) 0))) k (asks_all (first ((has_many_runs (cut_runs (address / 4096) (pages_for len) (areas_of p k)), ENOMEM) ∷ []) (Gives (Unmaps p.pid (address / 4096) (pages_for len) ∷ []) 0)) (first_good ((has_many_runs (cut_runs (address / 4096) (pages_for len) (areas_of p k)), ENOMEM) ∷ []) (Gives (Unmaps p.pid (address / 4096) (pages_for len) ∷ []) 0) k (tt, tt)))
 
   fixed : (first_page pages : ℕ) (perms : Perms) (cut : List Area) → Good (maps_fixed p k first_page pages perms cut) k
   fixed first_page pages perms cut =
@@ -241,7 +241,7 @@ module _ (p : Process) (k : Kernel) where
 
   pub mprotect : (address len prot : ℕ) → Good (mprotect_row p k address len prot) k
   mprotect address len prot =
-      first_good ((not (is_page_address address) || ltb 7 prot, EINVAL) ∷ (len == 0, 0) ∷ (ltb USER_END (address + len), ENOMEM) ∷ []) (behind (AsksSpace p.pid ∷ []) (first ((not (covered (areas_of p k) (address / 4096) (pages_for len) (perms 0)), ENOMEM) ∷ (has_many_runs (put_runs (address / 4096) (pages_for len) (perms prot) (areas_of p k)), ENOMEM) ∷ []) (Gives (Protects p.pid (address / 4096) (pages_for len) (put_runs (address / 4096) (pages_for len) (perms prot) (areas_of p k)) ∷ []) 0))) k (asks_all (first ((not (covered (areas_of p k) (address / 4096) (pages_for len) (perms 0)), ENOMEM) ∷ (has_many_runs (put_runs (address / 4096) (pages_for len) (perms prot) (areas_of p k)), ENOMEM) ∷ []) (Gives (Protects p.pid (address / 4096) (pages_for len) (put_runs (address / 4096) (pages_for len) (perms prot) (areas_of p k)) ∷ []) 0)) (first_good ((not (covered (areas_of p k) (address / 4096) (pages_for len) (perms 0)), ENOMEM) ∷ (has_many_runs (put_runs (address / 4096) (pages_for len) (perms prot) (areas_of p k)), ENOMEM) ∷ []) (Gives (Protects p.pid (address / 4096) (pages_for len) (put_runs (address / 4096) (pages_for len) (perms prot) (areas_of p k)) ∷ []) 0) k (tt, tt)))
+      first_good ((not (is_page_address address) || ltb 7 prot, EINVAL) ∷ (len == 0, 0) ∷ (ltb USER_END (address + len), ENOMEM) ∷ []) (following (AsksSpace p.pid ∷ []) (first ((not (covered (areas_of p k) (address / 4096) (pages_for len) (perms 0)), ENOMEM) ∷ (has_many_runs (put_runs (address / 4096) (pages_for len) (perms prot) (areas_of p k)), ENOMEM) ∷ []) (Gives (Protects p.pid (address / 4096) (pages_for len) (put_runs (address / 4096) (pages_for len) (perms prot) (areas_of p k)) ∷ []) 0))) k (asks_all (first ((not (covered (areas_of p k) (address / 4096) (pages_for len) (perms 0)), ENOMEM) ∷ (has_many_runs (put_runs (address / 4096) (pages_for len) (perms prot) (areas_of p k)), ENOMEM) ∷ []) (Gives (Protects p.pid (address / 4096) (pages_for len) (put_runs (address / 4096) (pages_for len) (perms prot) (areas_of p k)) ∷ []) 0)) (first_good ((not (covered (areas_of p k) (address / 4096) (pages_for len) (perms 0)), ENOMEM) ∷ (has_many_runs (put_runs (address / 4096) (pages_for len) (perms prot) (areas_of p k)), ENOMEM) ∷ []) (Gives (Protects p.pid (address / 4096) (pages_for len) (put_runs (address / 4096) (pages_for len) (perms prot) (areas_of p k)) ∷ []) 0) k (tt, tt)))
 
   -- ---- processes
 

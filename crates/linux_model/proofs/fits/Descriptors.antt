@@ -22,7 +22,7 @@ use Rattle.linux_model.proofs.fits.Files.{last_file, same_files, named_fits}
 use Rattle.linux_model.proofs.fits.Processes.{process_fits}
 use Rattle.linux_model.proofs.fits.Kept.{all_keep}
 use Rattle.linux_model.proofs.fits.Found.{allowed-append, closing_allowed, closing_procs, process_at, entry_fits, lives_found}
-use Rattle.linux_model.proofs.fits.Calls.{Good, first_good, first_if, given_good, behind_good, buffer, path}
+use Rattle.linux_model.proofs.fits.Calls.{Good, first_good, first_if, given_good, following_good, buffer, path}
 
 -- a pid's lives go on where a process with the pid gets another descriptor
 lives_on : (b : Bool) (pid fd : ℕ) (entry : Option FdEntry) (p : Process) → eqb p.pid pid ≡ b → (eqb p.pid pid ≡ true → is_live p.state ≡ true) → eqb (cond b (at_fd fd entry p) p).pid pid ≡ true → is_live (cond b (at_fd fd entry p) p).state ≡ true
@@ -90,7 +90,7 @@ module _ (k : Kernel) (p : Process) (fits : Fits k) (there : process k.procs p.p
   by_name : (fd flags : ℕ) (name : List ℕ) (file : Option FileNo) → named k.names name ≡ file → Good (opens_name p k fd flags name file) k
   by_name fd flags name (Some file) e = opens (has flags O_TRUNC && not (mode_of flags == 0)) file.0 fd flags k (named_fits k.files k.names name file fits.names_fit e) lives
   by_name fd flags name None e =
-      behind_good (MakesFile name ∷ []) _ k (tt, tt)
+      following_good (MakesFile name ∷ []) _ k (tt, tt)
       (first_if (leb FILES (length k.files)) _ ([]) (opens_file p fd k.next flags) (apply (MakesFile name) k) (λ room.
       let made : File = record { file = k.next; bytes = [] } in
       let there_is = made_there (is_some (named k.names name) || leb FILES (length k.files)) (record k { files = k.files ++ made ∷ []; names = with_name (record { name = name; file = record { 0 = k.next } }) k.names; next = k.next + 1 }) (no_name true (leb FILES (length k.files)) (named k.names name) e room) (last_file k.files made) refl in

@@ -1,4 +1,4 @@
--- A small world for worked rows: process 1 with two pages to read and write, of which the first has some paths, and with
+-- A small world for worked examples: process 1 with two pages to read and write, of which the first has some paths, and with
 -- the three standard streams.
 use Rattle.std.specs.Prelude.{ℕ, ◌+◌, false, List, [], ◌∷◌, ◌++◌, Option, Some, None, replicate}
 use Rattle.lego_base.specs.declared.records.Area.{Area}
