@@ -231,10 +231,8 @@ fn bytes_of<'a>(spots: &[Spot], frames: &'a PageFrames, pid: Pid, vpn: Vpn) -> O
         MatchOption result (held ≡ None) (λ bytes. held ≡ Some bytes.now) }
     ensures length { IfSome result (λ bytes. length bytes.now ≡ 4096) }
 {
-    match frame_of(spots, frames, pid, vpn) {
-        Some(frame) => Some(frames::bytes(frames, frame)),
-        None => None,
-    }
+    let frame = frame_of(spots, frames, pid, vpn)?;
+    Some(frames::bytes(frames, frame))
 }
 
 // The frame of a page: the one that a hint names, else by a search.
@@ -254,10 +252,8 @@ fn searched(spots: &[Spot], pid: Pid, vpn: Vpn) -> Option<usize>
     requires { Rises spot_key spots.now }
     ensures { result ≡ frame_in (find spot_key (key_at pid.0 vpn.0) spots.now) }
 {
-    match get(spots, pid, vpn.0) {
-        Some(spot) => Some(spot.frame),
-        None => None,
-    }
+    let spot = get(spots, pid, vpn.0)?;
+    Some(spot.frame)
 }
 
 // Lays bytes over those of a page.

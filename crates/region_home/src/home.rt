@@ -54,10 +54,8 @@ impl Home {
     pub fn get(&self, pid: Pid, region: RegionNo) -> Option<MemId>
         ensures { result ≡ owner_of self.now pid.0 region.0 }
     {
-        match get(self.entries.as_slice(), pid, region.0) {
-            Some(entry) => Some(entry.owner),
-            None => None,
-        }
+        let entry = get(self.entries.as_slice(), pid, region.0)?;
+        Some(entry.owner)
     }
 
     /// A copy of all entries, rising by process and region.

@@ -1,0 +1,3 @@
+pub mod OneByOne
+pub mod Made
+pub mod Texts

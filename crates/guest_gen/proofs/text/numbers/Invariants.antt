@@ -1,0 +1,7 @@
+use Rattle.std.proofs.Common.{◌≡◌, ◌++◌, drop, map}
+use Rattle.serde_json.specs.Data.{number, unsigned}
+use Rattle.serde_json.specs.View.{view}
+use Rattle.guest_gen.proofs.text.numbers.Given as goal
+
+abbrev pub invariant-loop-number : goal.invariant-loop-number
+invariant-loop-number l = map view l.values.items ++ map (λ n. number (unsigned n)) (drop l.number-index l.list) ≡ map (λ n. number (unsigned n)) l.list
