@@ -41,7 +41,10 @@ pub(crate) fn is_free(areas: &Areas, first: Vpn, pages: u64) -> bool
     requires { first.0 + pages ≤ PAGES_END }
     ensures { result ≡ is_free areas.now first.0 pages }
 {
-    areas.gap_from(first, pages) == Some(first)
+    match areas.gap_from(first, pages) {
+        Some(at) => at.0 == first.0,
+        None => false,
+    }
 }
 
 // Maps `pages` pages, starting at `first`, unless there are then more runs than a process may have. What is mapped stays
