@@ -43,4 +43,4 @@ returns-clause-stops g c p k =
     let protects = Protects c.args.pid.0 (c.args.address / 4096) c.pages_for-pages.result c.put_few.new.areas in
     let row : mprotect_row P K c.args.address c.args.len c.args.prot ≡ Gives (AsksSpace c.args.pid.0 ∷ protects ∷ []) 0 = search rules in
     let did = g.met.M.Machine.lawful.both _ _ _ (AsksSpace c.args.pid.0 ∷ []) (protects ∷ []) c.in_ok-areas.ensures.does c.in_ok-protect.ensures.does in
-    done g.M.Machine.held g.M.Machine.does g.M.Machine.stops g.met.M.Machine.lawful _ _ (AsksSpace c.args.pid.0 ∷ protects ∷ []) _ 0 row did
+    done g.M.Machine.held g.M.Machine.does g.M.Machine.stops g.met.M.Machine.lawful _ _ (AsksSpace c.args.pid.0 ∷ protects ∷ []) [] _ 0 row did

@@ -41,4 +41,4 @@ returns-clause-stops g c p k =
     let unmaps = Unmaps c.args.pid.0 (c.args.address / 4096) c.pages_for-pages.result in
     let row : munmap_row P K c.args.address c.args.len ≡ Gives (AsksSpace c.args.pid.0 ∷ unmaps ∷ []) 0 = search rules in
     let did = g.met.M.Machine.lawful.both _ _ _ (AsksSpace c.args.pid.0 ∷ []) (unmaps ∷ []) c.in_ok-areas.ensures.does c.in_ok-unmap.ensures.does in
-    done g.M.Machine.held g.M.Machine.does g.M.Machine.stops g.met.M.Machine.lawful _ _ (AsksSpace c.args.pid.0 ∷ unmaps ∷ []) _ 0 row did
+    done g.M.Machine.held g.M.Machine.does g.M.Machine.stops g.met.M.Machine.lawful _ _ (AsksSpace c.args.pid.0 ∷ unmaps ∷ []) [] _ 0 row did
