@@ -1,5 +1,6 @@
 -- What a call over a machine says where it answers and where it stops.
-use Rattle.std.proofs.Common.{◌≡◌, ℕ, refl, sym, ◌∙◌, ap, subst, List, [], ◌∷◌, ◌++◌}
+use Rattle.std.proofs.Common.{◌≡◌, ℕ, refl, sym, ◌∙◌, ap, subst, List, [], ◌∷◌, ◌++◌, Result, IfOk}
+use Rattle.lego_base.specs.declared.stops.Halt.{Halt}
 use Rattle.linux_model.specs.State.{Kernel}
 use Rattle.kernel_objects.specs.declared.process.Brk.{Brk}
 use Rattle.linux_model.specs.Processes.{at_pid}
@@ -46,3 +47,10 @@ module _ {X : Type 0} (held : X → Held) (does stops : X → X → List Effect 
       spaces
       ∙ (λ i. record (with_held (sym (laws.holds old new es did) i) k) { procs = break_twice pid brk (record { base = brk.base; now = address }) k.procs i });
   }
+
+  -- a call that hands on: its row is that of the other
+  pub answered_as : (old new : X) (row row' : Called) (before after : Kernel) (result : Result ℕ Halt) → row ≡ row' → IfOk result (Answered does old new row' before after) → IfOk result (Answered does old new row before after)
+  answered_as old new row row' before after result is answer = subst (λ (r : Called). IfOk result (Answered does old new r before after)) (sym is) answer
+
+  pub stopped_as : (old new : X) (row row' : Called) → row ≡ row' → stops old new (effects_of row') → stops old new (effects_of row)
+  stopped_as old new row row' is stop = subst (λ (r : Called). stops old new (effects_of r)) (sym is) stop
