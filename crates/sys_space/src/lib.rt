@@ -6,10 +6,12 @@
 #![tactic(auto)]
 
 mod breaks;
+mod dispatch;
 mod mappings;
 mod pages;
 
 pub use breaks::sys_brk;
+pub use dispatch::space_call;
 pub use mappings::{sys_mmap, sys_mprotect, sys_munmap};
 
 #[cfg(test)]
