@@ -1,7 +1,7 @@
 -- Pages of which none is mapped.
 use Rattle.std.proofs.Common.{◌≡◌, ℕ, zero, suc, ◌+◌, ◌≤◌, ◌<◌, inl, inr, Bool, true, false, cond, ◌&&◌, eqb, leb, ltb, refl, sym, ◌∙◌, ap, subst, List, Option, Some, None, IsSome, arith}
 use Rattle.std.proofs.lemmas.Bool.{cases_eq, eq-eqb, ne_eqb, and_from}
-use Rattle.std.specs.Prelude.{is_none, MatchOption}
+use Rattle.std.specs.Prelude.{is_none}
 use Rattle.lego_base.specs.declared.perms.Perms.{Perms}
 use Rattle.lego_base.specs.declared.records.Area.{Area}
 use Rattle.lego_base.specs.declared.sizes.TheConstants.{PAGES_END}
@@ -30,8 +30,8 @@ free_from : (areas : List Area) (first pages : ℕ) → ((page : ℕ) → first 
 free_from areas first zero none = refl
 free_from areas first (suc pages) none =
     and_from (is_none (perms_of areas first)) (is_free areas (first + 1) pages)
-      (is_none_of (perms_of areas first) (none first (omega arith) (omega arith)))
-      (free_from areas (first + 1) pages (λ page low high. none page (omega arith) (omega arith)))
+    (is_none_of (perms_of areas first) (none first (omega arith) (omega arith)))
+    (free_from areas (first + 1) pages (λ page low high. none page (omega arith) (omega arith)))
 
 free_at : (areas : List Area) (first pages : ℕ) → is_free areas first pages ≡ true → (page : ℕ) → first ≤ page → page < first + pages → perms_of areas page ≡ None
 free_at areas first zero free page low high = absurd (omega arith)

@@ -44,8 +44,8 @@ module _ {X : Type 0} (held : X → Held) (does stops : X → X → List Effect 
     row_is = is;
     did = laws.both old new new es (Breaks pid brk.base address ∷ []) did (laws.apart new (Breaks pid brk.base address) refl);
     becomes =
-      spaces
-      ∙ (λ i. record (with_held (sym (laws.holds old new es did) i) k) { procs = break_twice pid brk (record { base = brk.base; now = address }) k.procs i });
+        spaces
+        ∙ (λ i. record (with_held (sym (laws.holds old new es did) i) k) { procs = break_twice pid brk (record { base = brk.base; now = address }) k.procs i });
   }
 
   -- a call that hands on: its row is that of the other

@@ -1,5 +1,5 @@
 -- What a small machine holds: the space of process 1, in which no byte was written.
-use Rattle.std.specs.Prelude.{ℕ, List, []}
+use Rattle.std.specs.Prelude.{List, []}
 use Rattle.lego_base.specs.declared.records.Area.{Area}
 use Rattle.lego_base.specs.Space.{no_space, with_space}
 use Rattle.linux_model.specs.Held.{Held}

@@ -5,13 +5,13 @@ ghost use Rattle.linux_model.specs.Held.{Held};
 ghost use Rattle.call_machine.specs.Lawful.{Lawful, Led, holding};
 ghost use Rattle.sys_space.specs.Tried.{blank};
 
-use crate::breaks::sys_brk;
-use crate::mappings::{sys_mmap, sys_mprotect, sys_munmap};
+use crate::dispatch::space_call;
 use area_list::Areas;
 use call_machine::Machine;
 use call_machine::errno::{EINVAL, ENOMEM};
 use kernel_objects::{Brk, Stream};
-use lego_base::{Bytes, FileNo, Halt, Pid, Vpn};
+use lego_base::{Bytes, FileNo, Halt, Pid, USER_END, Vpn};
+use rv64_step::Cpu;
 use std::alloc::Global;
 use std::test::Fail;
 
@@ -132,21 +132,25 @@ impl Machine for Blank {
     ghost lawful = { holding (λ m. blank m.areas) };
 }
 
-// One call, as syscall(2) numbers it.
+// A call with this number and these first arguments.
 fn call(
     machine: &mut Blank,
     alloc: Global,
     brk: &mut Brk,
     number: u64,
     arguments: [u64; 4],
-) -> Result<u64, Halt> {
-    let [a, b, c, d] = arguments;
-    match number {
-        214 if brk.now <= 1 << 38 => sys_brk(machine, alloc, FIRST, brk, a),
-        215 => sys_munmap(machine, alloc, FIRST, a, b),
-        222 => sys_mmap(machine, alloc, FIRST, a, b, c, d),
-        _ => sys_mprotect(machine, alloc, FIRST, a, b, c),
+) -> Result<Option<u64>, Halt> {
+    if brk.now > USER_END {
+        return Err(Halt::NoMemory);
     }
+    let [a, b, c, d] = arguments;
+    let mut x = [0; 32];
+    x[10] = a;
+    x[11] = b;
+    x[12] = c;
+    x[13] = d;
+    x[17] = number;
+    space_call(machine, alloc, FIRST, &Cpu { pc: 0x1_0000, x }, brk)
 }
 
 #[test]
@@ -183,8 +187,10 @@ fn calls_on_a_space_give_the_answers_of_linux(rt: HostRuntime) -> Result<(), Fai
     ];
     for (number, arguments, answer) in table {
         let given = call(&mut machine, rt.alloc(), &mut brk, number, arguments);
-        assert_eq!(rt; given, Ok(answer));
+        assert_eq!(rt; given, Ok(Some(answer)));
     }
+    let write = call(&mut machine, rt.alloc(), &mut brk, 64, [0; 4]);
+    assert_eq!(rt; write, Ok(None));
     assert_eq!(rt; brk.now, 0x2_2001);
     Ok(())
 }

@@ -1,8 +1,8 @@
-use Rattle.std.proofs.Common.{rules, ◌≡◌, ◌/◌, refl, [], ◌∷◌}
+use Rattle.std.proofs.Common.{rules, ◌≡◌, refl, [], ◌∷◌}
 use Rattle.space_rules.specs.Place.{pages_for, place_of}
 use Rattle.linux_model.specs.Limits.{ENOMEM}
 use Rattle.linux_model.specs.Effects.{AsksSpace, Maps}
-use Rattle.linux_model.specs.Called.{Gives, following, given}
+use Rattle.linux_model.specs.Called.{Gives, given}
 use Rattle.linux_model.specs.Held.{with_held}
 use Rattle.linux_model.specs.SpaceCalls.{areas_of, maps_at}
 use Rattle.sys_space.specs.Calls.{anywhere_row, with_pid}

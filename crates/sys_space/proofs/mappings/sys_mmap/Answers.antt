@@ -1,7 +1,7 @@
 use Rattle.std.proofs.Common.{rules, ◌≡◌}
 use Rattle.linux_model.specs.Held.{with_held}
 use Rattle.linux_model.specs.SpaceCalls.{mmap_row}
-use Rattle.sys_space.specs.Calls.{anywhere_row, fixed_row, with_pid}
+use Rattle.sys_space.specs.Calls.{fixed_row, with_pid}
 use Rattle.sys_space.proofs.Row.{answered_as, stopped_as}
 use Rattle.sys_space.proofs.mappings.sys_mmap.Goals as goal
 

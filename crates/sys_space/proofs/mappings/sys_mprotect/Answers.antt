@@ -1,5 +1,4 @@
 use Rattle.std.proofs.Common.{rules, ◌≡◌, ◌/◌, not, refl, [], ◌∷◌}
-use Rattle.lego_base.specs.declared.perms.Perms.{Perms}
 use Rattle.area_list.specs.Runs.{put_runs}
 use Rattle.area_list.specs.Cover.{covered}
 use Rattle.space_rules.specs.Place.{pages_for}

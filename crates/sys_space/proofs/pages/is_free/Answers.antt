@@ -1,4 +1,3 @@
-use Rattle.std.proofs.Common.{rules}
 use Rattle.sys_space.proofs.Free.{gap_tells, no_gap_tells}
 use Rattle.sys_space.proofs.pages.is_free.Goals as goal
 
