@@ -13,7 +13,7 @@ use Rattle.space_loading.specs.Pages.{next_page}
 use Rattle.space_loading.proofs.Rising.{rest_from, rest_all, rest_none, rest_next, pages_rise}
 
 -- the space of a process that was set
-here : (spaces : ℕ → Space) (pid : ℕ) (space : Space) → with_space spaces pid space pid ≡ space
+pub here : (spaces : ℕ → Space) (pid : ℕ) (space : Space) → with_space spaces pid space pid ≡ space
 here spaces pid space = cond-true (eqb pid pid) space (spaces pid) (eq-eqb pid pid refl)
 
 -- a fill changes no areas

@@ -1,4 +1,6 @@
 pub mod Filling
+pub mod Loaded
 pub mod Parts
 pub mod Rising
 pub mod Stacking
+pub mod Stepping

@@ -26,6 +26,26 @@ earlier_is (Some a) (Some b) page e =
       | inr more ↦ let same : b ≡ page = omega (arith, is, more) in inr (ap Some same)
     ]
 
+-- the pages of one load that has bytes: none from a page on, or the later of that page and the first one
+pub load_below : (s : Segment) (from len : ℕ) → false ≡ eqb (length s.bytes) 0 → len ≡ length s.bytes → (s.vaddr + len - 1) / 4096 < from → None ≡ next_page from (with_numbers (s.vaddr / 4096) (pages_in s) [])
+load_below s from len some is low =
+    if_false (λ (n : ℕ). None ≡ next_page from (with_numbers (s.vaddr / 4096) n [])) (eqb (length s.bytes) 0) _ _ (sym some)
+      (sym (row_below from (s.vaddr / 4096) ((file_end s - 1) / 4096 + 1 - s.vaddr / 4096) (omega (arith, low, is))))
+
+has_some : (n : ℕ) → false ≡ eqb n 0 → n ≡ 0 → ⊥
+has_some n some none =
+    let no : false ≡ true = some ∙ eq-eqb n 0 none in
+    cc no
+
+pub load_next : (s : Segment) (from len page : ℕ) → false ≡ eqb (length s.bytes) 0 → len ≡ length s.bytes → from ≤ (s.vaddr + len - 1) / 4096 → page ≡ max from (s.vaddr / 4096) → Some page ≡ next_page from (with_numbers (s.vaddr / 4096) (pages_in s) [])
+load_next s from len page test is high at =
+    let some : length s.bytes ≡ 0 → ⊥ = has_some (length s.bytes) test in
+    let count : (file_end s - 1) / 4096 + 1 - s.vaddr / 4096 ≡ suc ((file_end s - 1) / 4096 - s.vaddr / 4096) = omega (arith, some) in
+    if_false (λ (n : ℕ). Some page ≡ next_page from (with_numbers (s.vaddr / 4096) n [])) (eqb (length s.bytes) 0) _ _ (ne_eqb (length s.bytes) 0 some)
+      (ap (λ (n : ℕ). Some n) at
+      ∙ sym (row_next from (s.vaddr / 4096) ((file_end s - 1) / 4096 - s.vaddr / 4096) (omega (arith, high, is, some)))
+      ∙ ap (λ (n : ℕ). next_page from (with_numbers (s.vaddr / 4096) n [])) (sym count))
+
 -- the pages of one load
 row_part : (s : Segment) (from page : ℕ) → next_page from (with_numbers (s.vaddr / 4096) (pages_in s) []) ≡ Some page → has_part s page ≡ true
 row_part s from page e = elim (cases_eq (length s.bytes) 0) [
@@ -34,7 +54,6 @@ row_part s from page e = elim (cases_eq (length s.bytes) 0) [
       let no : None ≡ Some page = sym (ap (λ (n : ℕ). next_page from (with_numbers (s.vaddr / 4096) n [])) zero_pages) ∙ e in
       cc no
   | inr some ↦
-      let more : ℕ = (file_end s - 1) / 4096 - s.vaddr / 4096 in
       let count : pages_in s ≡ suc ((file_end s - 1) / 4096 - s.vaddr / 4096) = if_false (λ (n : ℕ). n ≡ suc ((file_end s - 1) / 4096 - s.vaddr / 4096)) (eqb (length s.bytes) 0) _ _ (ne_eqb (length s.bytes) 0 some) (omega (arith, some)) in
       let e' : next_page from (with_numbers (s.vaddr / 4096) (suc ((file_end s - 1) / 4096 - s.vaddr / 4096)) []) ≡ Some page = sym (ap (λ (n : ℕ). next_page from (with_numbers (s.vaddr / 4096) n [])) count) ∙ e in
       elim (cases_lt from (s.vaddr / 4096 + suc ((file_end s - 1) / 4096 - s.vaddr / 4096))) [
@@ -92,17 +111,36 @@ has_bytes (s ∷ segments) page (inl here) =
 has_bytes (s ∷ segments) page (inr there) =
     let rest : first_byte segments page < last_end segments page = has_bytes segments page there in
     either (λ (n : ℕ). n < last_end (s ∷ segments) page) (has_part s page) _ _
-      (either (λ (n : ℕ). min (part_start s page) (first_byte segments page) < n) (has_part s page) _ _ (omega (arith, rest)) (omega (arith, rest)))
-      (either (λ (n : ℕ). first_byte segments page < n) (has_part s page) _ _ (omega (arith, rest)) rest)
+    (either (λ (n : ℕ). min (part_start s page) (first_byte segments page) < n) (has_part s page) _ _ (omega (arith, rest)) (omega (arith, rest)))
+    (either (λ (n : ℕ). first_byte segments page < n) (has_part s page) _ _ (omega (arith, rest)) rest)
+
+-- one load more, before those that were looked at
+pub first_more : (s : Segment) (segments : List Segment) (page start end : ℕ) → start ≡ part_start s page → end ≡ part_end s page → start < end → min (first_byte segments page) start ≡ first_byte (s ∷ segments) page
+first_more s segments page start end first last some =
+    let swap : min (first_byte segments page) start ≡ min (part_start s page) (first_byte segments page) = omega (arith, first) in
+    if_true (λ (n : ℕ). min (first_byte segments page) start ≡ n) (has_part s page) _ _ (lt-ltb (part_start s page) (part_end s page) (omega (arith, first, last, some))) swap
+
+pub first_same : (s : Segment) (segments : List Segment) (page start end : ℕ) → start ≡ part_start s page → end ≡ part_end s page → end ≤ start → first_byte segments page ≡ first_byte (s ∷ segments) page
+first_same s segments page start end first last none =
+    if_false (λ (n : ℕ). first_byte segments page ≡ n) (has_part s page) _ _ (le-ltb (part_start s page) (part_end s page) (omega (arith, first, last, none))) refl
+
+pub last_more : (s : Segment) (segments : List Segment) (page start end : ℕ) → start ≡ part_start s page → end ≡ part_end s page → start < end → max (last_end segments page) end ≡ last_end (s ∷ segments) page
+last_more s segments page start end first last some =
+    let swap : max (last_end segments page) end ≡ max (part_end s page) (last_end segments page) = omega (arith, last) in
+    if_true (λ (n : ℕ). max (last_end segments page) end ≡ n) (has_part s page) _ _ (lt-ltb (part_start s page) (part_end s page) (omega (arith, first, last, some))) swap
+
+pub last_same : (s : Segment) (segments : List Segment) (page start end : ℕ) → start ≡ part_start s page → end ≡ part_end s page → end ≤ start → last_end segments page ≡ last_end (s ∷ segments) page
+last_same s segments page start end first last none =
+    if_false (λ (n : ℕ). last_end segments page ≡ n) (has_part s page) _ _ (le-ltb (part_start s page) (part_end s page) (omega (arith, first, last, none))) refl
 
 -- ---- its page is mapped
 
 some_or : (b : Bool) (perms : Perms) (old : Option Perms) → IsSome old → IsSome (cond b (Some perms) old)
-some_or true perms old some = tt
+some_or true perms old some = refl
 some_or false perms old some = some
 
 some_if : (b : Bool) (perms : Perms) (old : Option Perms) → b ≡ true → IsSome (cond b (Some perms) old)
-some_if true perms old e = tt
+some_if true perms old e = refl
 some_if false perms old e = cc e
 
 loads_keep : (segments : List Segment) (perms : Option Perms) (page : ℕ) → IsSome perms → IsSome (perms_of_loads segments perms page)
@@ -113,8 +151,8 @@ part_meets : (s : Segment) (page : ℕ) → IsBoundedSegment s → has_part s pa
 part_meets s page bound part =
     let is : part_start s page < part_end s page = true_lt (part_start s page) (part_end s page) part in
     and_from (ltb s.vaddr ((page + 1) * 4096)) (ltb (page * 4096) (s.vaddr + s.memsz))
-      (lt-ltb s.vaddr ((page + 1) * 4096) (omega (arith, is)))
-      (lt-ltb (page * 4096) (s.vaddr + s.memsz) (omega (arith, is, bound.filled)))
+    (lt-ltb s.vaddr ((page + 1) * 4096) (omega (arith, is)))
+    (lt-ltb (page * 4096) (s.vaddr + s.memsz) (omega (arith, is, bound.filled)))
 
 loads_have : (segments : List Segment) (perms : Option Perms) (page : ℕ) → AllByRecursion IsBoundedSegment segments → HasPart segments page → IsSome (perms_of_loads segments perms page)
 loads_have [] perms page all none = absurd none
@@ -125,13 +163,13 @@ loads_have (s ∷ segments) perms page all (inr there) = loads_have segments (co
 pub part_mapped : (segments : List Segment) (page : ℕ) → All IsBoundedSegment segments → HasPart segments page → IsSome (perms_of (image_areas_of segments) page)
 part_mapped segments page all part =
     subst IsSome (sym ((image_maps segments (each segments all)).1 page))
-      (some_or (leb stack_page page && ltb page (stack_page + stack_pages)) read_write (perms_of_loads segments None page) (loads_have segments None page (each segments all) part))
+    (some_or (leb stack_page page && ltb page (stack_page + stack_pages)) read_write (perms_of_loads segments None page) (loads_have segments None page (each segments all) part))
 
 -- and so is a page of the stack
 pub stack_mapped : (segments : List Segment) (page : ℕ) → All IsBoundedSegment segments → stack_page ≤ page → page < stack_page + stack_pages → IsSome (perms_of (image_areas_of segments) page)
 stack_mapped segments page all low high =
     subst IsSome (sym ((image_maps segments (each segments all)).1 page))
-      (some_if (leb stack_page page && ltb page (stack_page + stack_pages)) read_write (perms_of_loads segments None page) (and_from (leb stack_page page) _ (le-leb stack_page page low) (lt-ltb page (stack_page + stack_pages) high)))
+    (some_if (leb stack_page page && ltb page (stack_page + stack_pages)) read_write (perms_of_loads segments None page) (and_from (leb stack_page page) _ (le-leb stack_page page low) (lt-ltb page (stack_page + stack_pages) high)))
 
 -- pages of loads are low
 pub part_low : (segments : List Segment) (page : ℕ) → AllByRecursion IsBoundedSegment segments → HasPart segments page → page < 2 ^ 26

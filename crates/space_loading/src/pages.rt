@@ -20,7 +20,7 @@ pub(crate) fn next_page(segments: &[Segment], from: u64) -> Option<u64>
 {
     let mut next = None;
     for i in (0..segments.len()).rev() {
-        next = earlier(next, next_page_of(&segments[i], from));
+        next = earlier(next_page_of(&segments[i], from), next);
     }
     next
 }
@@ -111,7 +111,12 @@ fn loaded(segments: &[Segment], address: u64) -> u8
 }
 
 // The bytes that the loads have from an address to before another.
-pub(crate) fn loaded_between(alloc: Global, segments: &[Segment], first: u64, end: u64) -> Result<Bytes, NoMemory>
+pub(crate) fn loaded_between(
+    alloc: Global,
+    segments: &[Segment],
+    first: u64,
+    end: u64,
+) -> Result<Bytes, NoMemory>
     requires { All IsBoundedSegment segments.now }
     ensures { IfOk result (λ bytes. bytes ≡ bytes_at (record { areas = []; byte = loaded segments.now }) first (end - first)) }
 {
