@@ -37,7 +37,7 @@ module _ {X : Type 0} (held : X → Held) (does stops : X → X → List Effect 
   }
 
   -- those from a page on
-  rest : ℕ → List Effect
+  abbrev rest : ℕ → List Effect
   rest from = map (page_fill pid segments) (rest_from from (filled_pages segments))
 
   next_rest : (from page : ℕ) → next_page from (filled_pages segments) ≡ Some page → rest from ≡ page_fill pid segments page ∷ rest (page + 1)

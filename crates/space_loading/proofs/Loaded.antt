@@ -1,5 +1,6 @@
 -- A program that is loaded: its pages, its loads, its stack.
 use Rattle.std.proofs.Common.{◌≡◌, ℕ, ◌+◌, ◌≤◌, ◌<◌, refl, sym, ◌∙◌, ap, subst, List, [], ◌∷◌, ◌++◌, map, length, Option, Some, None, IsSome, All}
+use Rattle.lego_base.specs.declared.perms.Perms.{Perms}
 use Rattle.lego_base.specs.declared.records.Area.{Area}
 use Rattle.lego_base.specs.Space.{Space, no_space, perms_of}
 use Rattle.elf_image.specs.declared.image.Segment.{Segment}
@@ -19,7 +20,7 @@ use Rattle.space_loading.proofs.Stacking.{Mapped}
 -- where nothing is mapped, each page that is mapped is mapped
 pub bare_keeps : (space : Space) (areas : List Area) → space ≡ no_space → KeepsPages space.areas areas
 bare_keeps space areas e page some =
-    let no : IsSome None = subst (λ (s : Space). IsSome (perms_of s.areas page)) e some in
+    let no : IsSome {T = Perms} None = subst (λ (s : Space). IsSome (perms_of s.areas page)) e some in
     cc no
 
 maps_areas : (pid : ℕ) (areas : List Area) (h : Held) → ((held_after (Maps pid areas) h).space pid).areas ≡ areas

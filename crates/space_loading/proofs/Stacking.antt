@@ -27,22 +27,20 @@ pub record Stacking {X : Type 0} (held : X → Held) (does : X → X → List Ef
   pub mapped : Mapped held b pid
 
 module _ {X : Type 0} (held : X → Held) (does stops : X → X → List Effect → Type 0) (laws : Lawful held does stops) (pid sp : ℕ) (bytes : List ℕ) (within : IsWithinStack sp bytes) where
-  pub begins : (a : X) → Mapped held a pid → Stacking held does a a pid sp bytes 0
-  begins a mapped =
-      let e : sp + 0 ≡ sp = omega arith in
-      record {
-        effects = [];
-        did = laws.none a;
-        whole = ap (λ (at : ℕ). cut pid (pages_met at (length bytes)) at bytes) e;
-        within = omega arith;
-        mapped = mapped;
-      }
-
   abbrev room : ℕ → ℕ
   room done = 4096 - (sp + done) % 4096
 
   abbrev fill : ℕ → Effect
   fill done = Fills pid (sp + done) (take (room done) (drop done bytes))
+
+  -- the same, as the code has it
+  abbrev code_fill : ℕ → Effect
+  code_fill done = Fills pid (sp + done) (take (done + room done - done) (drop done bytes))
+
+  code_is : (done : ℕ) → code_fill done ∷ [] ≡ fill done ∷ []
+  code_is done =
+      let size : done + room done - done ≡ room done = omega arith in
+      ap (λ (n : ℕ). Fills pid (sp + done) (take n (drop done bytes)) ∷ []) size
 
   -- the rest begins with a fill
   next_left : (done : ℕ) → done < length bytes → left pid sp bytes done ≡ fill done ∷ left pid sp bytes (done + room done)
@@ -59,8 +57,9 @@ module _ {X : Type 0} (held : X → Held) (does stops : X → X → List Effect 
       omega (arith, h, ends)
 
   -- one page more
-  pub goes_on : (a b c : X) (done : ℕ) → done < length bytes → Stacking held does a b pid sp bytes done → does b c (fill done ∷ []) → Stacking held does a c pid sp bytes (done + room done)
-  goes_on a b c done h f d = record {
+  pub goes_on : (a b c : X) (done : ℕ) → done < length bytes → Stacking held does a b pid sp bytes done → does b c (code_fill done ∷ []) → Stacking held does a c pid sp bytes (done + room done)
+  goes_on a b c done h f code =
+    let d : does b c (fill done ∷ []) = subst (does b c) (code_is done) code in record {
     effects = f.effects ++ fill done ∷ [];
     did = laws.both a b c f.effects (fill done ∷ []) f.did d;
     whole = append_assoc f.effects (fill done ∷ []) (left pid sp bytes (done + room done)) ∙ ap (λ (es : List Effect). f.effects ++ es) (sym (next_left done h)) ∙ f.whole;
@@ -68,16 +67,9 @@ module _ {X : Type 0} (held : X → Held) (does stops : X → X → List Effect 
     mapped = λ page low high. subst (λ (areas : _). IsSome (perms_of areas page)) (sym (ap (λ (h : Held). (h.space pid).areas) (laws.holds b c (fill done ∷ []) d) ∙ fill_maps_nothing pid _ _ (held b))) (f.mapped page low high);
   }
 
-  -- no byte more
-  pub ends_so : (a b : X) (done : ℕ) → length bytes ≤ done → Stacking held does a b pid sp bytes done → does a b (cut pid (pages_met sp (length bytes)) sp bytes)
-  ends_so a b done h f =
-      let ends : sp + length bytes ≡ 274877841408 = within.ends in
-      let none : pages_met (sp + done) (length bytes - done) ≡ 0 = omega (arith, h, f.within, ends) in
-      let all : f.effects ≡ cut pid (pages_met sp (length bytes)) sp bytes = sym (append-nil f.effects) ∙ ap (λ (es : List Effect). f.effects ++ es) (sym (ap (λ (n : ℕ). cut pid n (sp + done) (drop done bytes)) none)) ∙ f.whole in
-      subst (does a b) all f.did
-
   -- a stop in a page
-  pub stopped : (a b c : X) (done : ℕ) → done < length bytes → Stacking held does a b pid sp bytes done → stops b c (fill done ∷ []) → stops a c (cut pid (pages_met sp (length bytes)) sp bytes)
-  stopped a b c done h f s =
+  pub stopped : (a b c : X) (done : ℕ) → done < length bytes → Stacking held does a b pid sp bytes done → stops b c (code_fill done ∷ []) → stops a c (cut pid (pages_met sp (length bytes)) sp bytes)
+  stopped a b c done h f code =
+      let s : stops b c (fill done ∷ []) = subst (stops b c) (code_is done) code in
       let all : f.effects ++ (fill done ∷ left pid sp bytes (done + room done)) ≡ cut pid (pages_met sp (length bytes)) sp bytes = ap (λ (es : List Effect). f.effects ++ es) (sym (next_left done h)) ∙ f.whole in
       subst (stops a c) all (laws.stops_then a b c f.effects (fill done ∷ left pid sp bytes (done + room done)) f.did (laws.stops_front b c (fill done ∷ []) (left pid sp bytes (done + room done)) s))
