@@ -117,7 +117,8 @@ pub(crate) fn loaded_between(
     first: u64,
     end: u64,
 ) -> Result<Bytes, NoMemory>
-    requires { All IsBoundedSegment segments.now }
+    requires bounded { All IsBoundedSegment segments.now }
+    requires ordered { first ≤ end }
     ensures { IfOk result (λ bytes. bytes ≡ bytes_at (record { areas = []; byte = loaded segments.now }) first (end - first)) }
 {
     let mut bytes = Vec::new(alloc);

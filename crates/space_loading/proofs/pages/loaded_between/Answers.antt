@@ -10,5 +10,5 @@ loop-address-preserved c =
 
 pub returns : goal.returns
 returns c =
-    let size : c.loop-address.address - c.args.first ≡ c.args.end - c.args.first = omega (arith, c.loop-address.auto.address, c.loop-address.auto.address-end, c.loop-address-test.false) in
+    let size : c.loop-address.address - c.args.first ≡ c.args.end - c.args.first = omega (arith, c.requires.ordered, c.loop-address.auto.address, c.loop-address.auto.address-end, c.loop-address-test.false) in
     c.in_ok-from_vec.ensures ∙ c.loop-address.invariant ∙ ap (bytes_at (record { areas = []; byte = loaded c.args.segments.now }) c.args.first) size
