@@ -1,4 +1,5 @@
 pub mod Effects
 pub mod Lawful
 pub mod Laws
+pub mod Made
 pub mod Tried

@@ -8,6 +8,7 @@
 
 ghost use Rattle.call_machine.specs.Laws.{StopsFollow};
 
+pub mod errno;
 mod machine;
 
 pub use machine::Machine;

@@ -1,0 +1,7 @@
+use Rattle.std.proofs.Common.{◌≡◌, drop}
+use Rattle.kernel_model.specs.Boot.{first_byte}
+use Rattle.space_loading.proofs.pages.first_byte.Given as goal
+
+-- the first byte of the loads from here on
+abbrev pub invariant-loop-i : goal.invariant-loop-i
+invariant-loop-i l = l.first ≡ first_byte (drop l.i l.segments) l.page

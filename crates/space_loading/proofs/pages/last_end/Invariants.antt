@@ -1,0 +1,7 @@
+use Rattle.std.proofs.Common.{◌≡◌, drop}
+use Rattle.kernel_model.specs.Boot.{last_end}
+use Rattle.space_loading.proofs.pages.last_end.Given as goal
+
+-- the last byte's end of the loads from here on
+abbrev pub invariant-loop-i : goal.invariant-loop-i
+invariant-loop-i l = l.last ≡ last_end (drop l.i l.segments) l.page

@@ -1,0 +1,4 @@
+pub mod Free
+pub mod Numbered
+pub mod Row
+pub mod Twice

@@ -1,0 +1,44 @@
+use Rattle.std.proofs.Common.{rules, ◌≡◌, ◌/◌, refl, [], ◌∷◌}
+use Rattle.area_list.specs.Runs.{cut_runs}
+use Rattle.space_rules.specs.Place.{pages_for}
+use Rattle.linux_model.specs.Limits.{ENOMEM}
+use Rattle.linux_model.specs.Effects.{AsksSpace, Unmaps}
+use Rattle.linux_model.specs.Called.{Gives, first, following}
+use Rattle.linux_model.specs.Held.{with_held}
+use Rattle.linux_model.specs.SpaceCalls.{areas_of, has_many_runs, munmap_row}
+use Rattle.sys_space.specs.Calls.{with_pid}
+use Rattle.sys_space.proofs.Row.{answered, asked, done, stopped}
+use Rattle.sys_space.proofs.mappings.sys_munmap.Goals as goal
+
+pub returns-in_err-areas-clause-stops : goal.returns-in_err-areas-clause-stops
+returns-in_err-areas-clause-stops g c p k =
+    let P = with_pid c.args.pid.0 p in
+    let K = with_held (g.M.Machine.held c.args.machine.now) k in
+    let row : munmap_row P K c.args.address c.args.len ≡ following (AsksSpace c.args.pid.0 ∷ []) (first ((has_many_runs (cut_runs (c.args.address / 4096) (pages_for c.args.len) (areas_of P K)), ENOMEM) ∷ []) (Gives (Unmaps c.args.pid.0 (c.args.address / 4096) (pages_for c.args.len) ∷ []) 0)) = search rules in
+    asked g.M.Machine.held g.M.Machine.does g.M.Machine.stops g.met.M.Machine.lawful _ _ (AsksSpace c.args.pid.0 ∷ []) _ _ row c.areas.ensures.stops
+
+pub returns-in_err-unmap-clause-stops : goal.returns-in_err-unmap-clause-stops
+returns-in_err-unmap-clause-stops g c p k =
+    let P = with_pid c.args.pid.0 p in
+    let K = with_held (g.M.Machine.held c.args.machine.now) k in
+    let unmaps = Unmaps c.args.pid.0 (c.args.address / 4096) c.pages_for-pages.result in
+    let row : munmap_row P K c.args.address c.args.len ≡ Gives (AsksSpace c.args.pid.0 ∷ unmaps ∷ []) 0 = search rules in
+    stopped g.M.Machine.held g.M.Machine.does g.M.Machine.stops g.met.M.Machine.lawful _ _ _ (AsksSpace c.args.pid.0 ∷ []) (unmaps ∷ []) [] _ 0 row c.in_ok-areas.ensures.does c.unmap.ensures.stops
+
+pub returns-clause-answers : goal.returns-clause-answers
+returns-clause-answers g c p k =
+    let P = with_pid c.args.pid.0 p in
+    let K = with_held (g.M.Machine.held c.args.machine.now) k in
+    let unmaps = Unmaps c.args.pid.0 (c.args.address / 4096) c.pages_for-pages.result in
+    let row : munmap_row P K c.args.address c.args.len ≡ Gives (AsksSpace c.args.pid.0 ∷ unmaps ∷ []) 0 = search rules in
+    let did = g.met.M.Machine.lawful.both _ _ _ (AsksSpace c.args.pid.0 ∷ []) (unmaps ∷ []) c.in_ok-areas.ensures.does c.in_ok-unmap.ensures.does in
+    answered g.M.Machine.held g.M.Machine.does g.M.Machine.stops g.met.M.Machine.lawful _ _ (AsksSpace c.args.pid.0 ∷ unmaps ∷ []) _ k 0 row did refl
+
+pub returns-clause-stops : goal.returns-clause-stops
+returns-clause-stops g c p k =
+    let P = with_pid c.args.pid.0 p in
+    let K = with_held (g.M.Machine.held c.args.machine.now) k in
+    let unmaps = Unmaps c.args.pid.0 (c.args.address / 4096) c.pages_for-pages.result in
+    let row : munmap_row P K c.args.address c.args.len ≡ Gives (AsksSpace c.args.pid.0 ∷ unmaps ∷ []) 0 = search rules in
+    let did = g.met.M.Machine.lawful.both _ _ _ (AsksSpace c.args.pid.0 ∷ []) (unmaps ∷ []) c.in_ok-areas.ensures.does c.in_ok-unmap.ensures.does in
+    done g.M.Machine.held g.M.Machine.does g.M.Machine.stops g.met.M.Machine.lawful _ _ (AsksSpace c.args.pid.0 ∷ unmaps ∷ []) [] _ 0 row did
