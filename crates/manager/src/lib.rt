@@ -1,0 +1,6 @@
+//! The manager of the plain kernel.
+#![tactic(auto)]
+
+mod counts;
+mod descs;
+mod slots;
