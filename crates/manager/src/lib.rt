@@ -3,4 +3,6 @@
 
 mod counts;
 mod descs;
+mod input;
+mod pipes;
 mod slots;
