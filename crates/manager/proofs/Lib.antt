@@ -1,2 +1,4 @@
 pub mod Held
 pub mod Numbers
+pub mod References
+pub mod Changes

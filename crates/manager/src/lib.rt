@@ -4,5 +4,6 @@
 mod counts;
 mod descs;
 mod input;
+mod manager;
 mod pipes;
 mod slots;
