@@ -1,5 +1,5 @@
 -- The tables stay sound where a process changes in what they don't count, where a pipe's bytes change, and where an offset does.
-use Rattle.std.proofs.Common.{◌≡◌, ℕ, zero, suc, ◌+◌, ◌≤◌, ◌<◌, Bool, true, false, refl, sym, ◌∙◌, ap, subst, List, [], ◌∷◌, length, slice_index, slice_set, Option, Some, None, is_some, arith}
+use Rattle.std.proofs.Common.{◌≡◌, ℕ, zero, suc, ◌+◌, ◌≤◌, ◌<◌, Bool, true, false, cond, eqb, refl, sym, ◌∙◌, ap, subst, List, [], ◌∷◌, length, slice_index, slice_set, Option, Some, None, is_some, arith}
 use Rattle.rv64_step.specs.declared.cpu.Cpu.{Cpu}
 use Rattle.kernel_objects.specs.declared.descriptor.Description.{Description}
 use Rattle.kernel_objects.specs.declared.process.Brk.{Brk}
@@ -96,3 +96,16 @@ offset_changed t d p desc offset s =
       };
       ended = λ n there. subst (λ (m : ℕ). 0 < m) (sym (same n)) (s.ended n there);
     }
+
+-- ---- after a call
+
+returned_one : (b : Bool) (pid : ℕ) (cpu : Cpu) (p : Process) → eqb p.pid pid ≡ b
+    → cond (eqb (cond b (record p { cpu = cpu }) p).pid pid) (record (cond b (record p { cpu = cpu }) p) { waiting = None }) (cond b (record p { cpu = cpu }) p) ≡ cond b (record p { cpu = cpu; waiting = None }) p
+returned_one true pid cpu p e = ap (λ (c : Bool). cond c (record p { cpu = cpu; waiting = None }) (record p { cpu = cpu })) e
+returned_one false pid cpu p e = ap (λ (c : Bool). cond c (record p { waiting = None }) p) e
+
+-- the registers, then the waiting call
+pub returned : (pid : ℕ) (cpu : Cpu) (procs : List Process)
+    → at_pid pid (λ p. record p { waiting = None }) (at_pid pid (λ p. record p { cpu = cpu }) procs) ≡ at_pid pid (λ p. record p { cpu = cpu; waiting = None }) procs
+returned pid cpu [] = refl
+returned pid cpu (p ∷ procs) = λ i. returned_one (eqb p.pid pid) pid cpu p refl i ∷ returned pid cpu procs i

@@ -1,10 +1,15 @@
 -- Words of the calls' contracts.
-use Rattle.std.specs.Prelude.{ℕ, Bool, true, Option, Some, None}
+use Rattle.std.specs.Prelude.{ℕ, Bool, true, if◌then◌else◌, List, [], ◌∷◌, Option, Some, None}
+use Rattle.lego_base.specs.declared.ids.FileNo.{FileNo}
+use Rattle.kernel_objects.specs.declared.descriptor.Description.{Description}
 use Rattle.kernel_objects.specs.declared.descriptor.FdEntry.{FdEntry}
+use Rattle.kernel_objects.specs.declared.descriptor.Object.{Object}
+use Rattle.kernel_objects.specs.declared.descriptor.Object.TheVariants.{Regular}
 use Rattle.kernel_objects.specs.Slots.{picks}
 use Rattle.linux_model.specs.Descriptors.{Open}
+use Rattle.linux_model.specs.Effects.{Effect, FreesFile}
 use Rattle.linux_model.specs.Managed.{Managed}
-use Rattle.linux_model.specs.Processes.{process, is_live}
+use Rattle.linux_model.specs.Processes.{process, is_live, has_file}
 use Rattle.manager.specs.declared.manager.Opened.{Opened}
 
 -- whether a process lives
@@ -17,3 +22,13 @@ open_of o = record { desc = o.desc; is = o.is }
 
 abbrev pub entry_of : Opened → FdEntry
 entry_of o = record { desc = o.desc; cloexec = o.cloexec }
+
+-- the file of an object whose description has ended, where no other description is open on it
+abbrev pub file_left : Object → List (Option Description) → Option FileNo
+file_left (Regular file) descs = if has_file file.0 descs then None else Some file
+file_left other descs = None
+
+-- a file that may go
+abbrev pub frees : Option FileNo → List Effect
+frees None = []
+frees (Some file) = FreesFile file.0 ∷ []

@@ -3,19 +3,20 @@
 ghost use Rattle.std.specs.Prelude.{◌≡◌, ◌==◌, ◌+◌, ◌-◌, ◌^◌, ◌<◌, ◌≤◌, ◌++◌, ℕ, [], ◌∷◌, true, false, Some, None, drop, filter, is_some, length, min, nat_lt, option_and_then, option_map, slice_index, slice_set, take, IfOk, IfSome, OnErr, OnOk};
 ghost use Rattle.fd_table.specs.declared.fds.TheConstants.{DESCRIPTORS};
 ghost use Rattle.kernel_objects.specs.Slots.{held, lowest_free, slot};
-ghost use Rattle.linux_model.specs.Descriptors.{opened};
-ghost use Rattle.linux_model.specs.Effects.{bytes_in_pipe, Breaks, Goes, Keeps, PutsPipe, Returns, Seeks, Takes, TakesPipe};
+ghost use Rattle.linux_model.specs.Descriptors.{closing, opened};
+ghost use Rattle.linux_model.specs.Effects.{bytes_in_pipe, Breaks, Closes, Goes, Keeps, Opens, PutsPipe, Returns, Seeks, Shares, Takes, TakesPipe};
 ghost use Rattle.linux_model.specs.Limits.{DESCRIPTIONS, PIPE_BYTES};
 ghost use Rattle.linux_model.specs.Managed.{managed_after, managed_in, with_managed};
 ghost use Rattle.linux_model.specs.Processes.{fds_of, has_file, has_reader, has_writer, is_live, process};
 ghost use Rattle.linux_model.specs.State.{Kernel, Process, unbooted};
 ghost use Rattle.proc_table.specs.Entries.{proc_of};
-ghost use Rattle.manager.specs.Words.{entry_of, is_alive, open_of};
+ghost use Rattle.manager.specs.Tables.{PipeThere};
+ghost use Rattle.manager.specs.Words.{entry_of, file_left, frees, is_alive, open_of};
 
 use crate::descs::Descs;
 use crate::input::Input;
 use crate::pipes::{PipeState, Pipes};
-use kernel_objects::{Brk, Description, Waiting};
+use kernel_objects::{Brk, Description, FdEntry, Object, Waiting};
 use lego_base::{Bytes, Exit, FileNo, NoMemory, Pid};
 use proc_table::{Proc, Procs};
 use rv64_step::Cpu;
@@ -229,10 +230,79 @@ impl Manager {
         self.input.peek(buf)
     }
 
+    /// A free descriptor of a process that lives gets the description of another one, as dup(2) and dup3(2) share it.
+    pub fn dup(&mut self, pid: Pid, from: u32, to: u32, cloexec: bool)
+        requires alive { is_alive pid.0 self.old ≡ true }
+        requires from { is_some (slot (fds_of (process self.old.procs pid.0)) from) ≡ true }
+        requires to { to < DESCRIPTORS }
+        requires free { slot (fds_of (process self.old.procs pid.0)) to ≡ None }
+        ensures { IfSome (slot (fds_of (process self.old.procs pid.0)) from) (λ e. self.new ≡ managed_after (Shares pid.0 to e.desc cloexec) self.old) }
+    {
+        if let Some(entry) = self.procs.fd(pid, u64::from(from)) {
+            self.descs.share(entry.desc);
+            let shared = FdEntry {
+                desc: entry.desc,
+                cloexec,
+            };
+            self.procs.set_fd(pid, to, Some(shared));
+        }
+    }
+
+    /// A new description, at offset 0, of an object with the flags of open(2), for a free descriptor of a process that lives.
+    pub fn open(&mut self, pid: Pid, fd: u32, object: Object, flags: u32, cloexec: bool)
+        requires alive { is_alive pid.0 self.old ≡ true }
+        requires fd { fd < DESCRIPTORS }
+        requires free { slot (fds_of (process self.old.procs pid.0)) fd ≡ None }
+        requires pipe { PipeThere self.old.pipes object }
+        requires room { length (held self.old.descs) < DESCRIPTIONS }
+        ensures { self.new ≡ managed_after (Opens pid.0 fd object flags cloexec) self.old }
+    {
+        let description = Description {
+            object,
+            offset: 0,
+            flags,
+        };
+        let entry = FdEntry {
+            desc: self.descs.add(description),
+            cloexec,
+        };
+        self.pipes.begin(object);
+        self.procs.set_fd(pid, fd, Some(entry));
+    }
+
+    /// Closes a descriptor, as in close(2), where it is open. Returns the file whose last description ended with it. A pipe
+    /// goes with its last end.
+    pub fn close(&mut self, pid: Pid, fd: u32) -> Option<FileNo>
+        ensures closed { self.new ≡ managed_after (Closes pid.0 fd) self.old }
+        ensures frees { (k : Kernel) → closing pid.0 fd (with_managed self.old k) ≡ Closes pid.0 fd ∷ frees result }
+    {
+        let entry = self.procs.fd(pid, u64::from(fd))?;
+        self.procs.set_fd(pid, fd, None);
+        let ended = self.descs.let_go(entry.desc)?;
+        self.pipes.end(ended.object);
+        file_left(&self.descs, ended.object)
+    }
+
     /// The exits in order.
     pub fn exits(&self) -> &[Exit]
         ensures { result.now ≡ self.now.exits }
     {
         self.exits.as_slice()
+    }
+}
+
+// The file of an object whose description has ended, where no other description is open on it.
+fn file_left(descs: &Descs, object: Object) -> Option<FileNo>
+    ensures { result ≡ file_left object descs.now.descs }
+{
+    match object {
+        Object::Regular(file) => {
+            if descs.has_file(file) {
+                None
+            } else {
+                Some(file)
+            }
+        }
+        _ => None,
     }
 }
