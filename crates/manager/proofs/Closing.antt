@@ -79,7 +79,7 @@ open_counted t d p pid fd e c is =
     let refs = c.refs e.desc in
     omega (arith, fewer, self, refs)
 
-abbrev closed_table : Table → ℕ → ℕ → Table
+abbrev pub closed_table : Table → ℕ → ℕ → Table
 closed_table t pid fd = record t { procs = at_pid pid (at_fd fd None) t.procs }
 
 refs_fewer : (t : Table) (d : DescTable) (p : PipeTable) (refs : List ℕ) (pid fd : ℕ) (e : FdEntry) (n : ℕ) → Counted t d p → slot (fds_of (process t.procs pid)) fd ≡ Some e → OneFewer e.desc d.refs refs
@@ -134,13 +134,13 @@ none_left t d p pid fd e c is last =
     let refs = c.refs e.desc in
     sym (referred e.desc (at_pid pid (at_fd fd None) t.procs)) ∙ le-ltb 0 (references e.desc (at_pid pid (at_fd fd None) t.procs)) (omega (arith, one, fewer, self, refs))
 
-reads_fewer : (n desc : ℕ) (x : Description) (descs : List (Option Description)) → slot descs desc ≡ Some x → readers n (freed descs desc) + one_if (is_reading_end n x.object) ≡ readers n descs
+pub reads_fewer : (n desc : ℕ) (x : Description) (descs : List (Option Description)) → slot descs desc ≡ Some x → readers n (freed descs desc) + one_if (is_reading_end n x.object) ≡ readers n descs
 reads_fewer n desc x descs is =
     let less = with-set (reads_from n) descs desc None (slot_within descs desc (ap (λ (o : Option Description). is_some o) is)) in
     let was : one_if (picks (reads_from n) (slot descs desc)) ≡ one_if (is_reading_end n x.object) = ap (λ (o : Option Description). one_if (picks (reads_from n) o)) is in
     omega (arith, less, was)
 
-writes_fewer : (n desc : ℕ) (x : Description) (descs : List (Option Description)) → slot descs desc ≡ Some x → writers n (freed descs desc) + one_if (is_writing_end n x.object) ≡ writers n descs
+pub writes_fewer : (n desc : ℕ) (x : Description) (descs : List (Option Description)) → slot descs desc ≡ Some x → writers n (freed descs desc) + one_if (is_writing_end n x.object) ≡ writers n descs
 writes_fewer n desc x descs is =
     let less = with-set (writes_to n) descs desc None (slot_within descs desc (ap (λ (o : Option Description). is_some o) is)) in
     let was : one_if (picks (writes_to n) (slot descs desc)) ≡ one_if (is_writing_end n x.object) = ap (λ (o : Option Description). one_if (picks (writes_to n) o)) is in

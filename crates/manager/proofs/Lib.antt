@@ -6,3 +6,4 @@ pub mod Open
 pub mod Opening
 pub mod Ends
 pub mod Closing
+pub mod Closed

@@ -115,7 +115,7 @@ opened_ended d p x pipes refs readers' writers' same ended = λ n there.
     omega (arith, r, w, old)
 
 -- the tables that come of it
-abbrev opened_table : Table → ℕ → ℕ → ℕ → Bool → Table
+abbrev pub opened_table : Table → ℕ → ℕ → ℕ → Bool → Table
 opened_table t pid fd desc cloexec = record t { procs = at_pid pid (at_fd fd (Some (record { desc = desc; cloexec = cloexec }))) t.procs }
 
 pub opened_counted : (t : Table) (d : DescTable) (p : PipeTable) (t' : Table) (d' : DescTable) (p' : PipeTable) (pid fd desc : ℕ) (x : Description) (cloexec : Bool)
