@@ -7,3 +7,5 @@ pub mod Opening
 pub mod Ends
 pub mod Closing
 pub mod Closed
+pub mod Deaths
+pub mod Forking

@@ -76,7 +76,7 @@ references_fd n pid fd e p low last (q ∷ procs) r found lt =
 
 -- ---- bounds
 
-with_le-length : {X : Type 0} (test : X → Bool) (slots : List (Option X)) → slots_with test slots ≤ length slots
+pub with_le-length : {X : Type 0} (test : X → Bool) (slots : List (Option X)) → slots_with test slots ≤ length slots
 with_le-length test [] = omega arith
 with_le-length test (x ∷ slots) = let rest = with_le-length test slots in let one = one_at (picks test x) in omega (arith, rest, one)
   where

@@ -1,5 +1,5 @@
 -- Words of the calls' contracts.
-use Rattle.std.specs.Prelude.{ℕ, Bool, true, if◌then◌else◌, List, [], ◌∷◌, Option, Some, None}
+use Rattle.std.specs.Prelude.{ℕ, Bool, true, false, Result, Ok, Err, if◌then◌else◌, List, [], ◌∷◌, Option, Some, None}
 use Rattle.lego_base.specs.declared.ids.FileNo.{FileNo}
 use Rattle.kernel_objects.specs.declared.descriptor.Description.{Description}
 use Rattle.kernel_objects.specs.declared.descriptor.FdEntry.{FdEntry}
@@ -7,10 +7,15 @@ use Rattle.kernel_objects.specs.declared.descriptor.Object.{Object}
 use Rattle.kernel_objects.specs.declared.descriptor.Object.TheVariants.{Regular}
 use Rattle.kernel_objects.specs.Slots.{picks}
 use Rattle.linux_model.specs.Descriptors.{Open}
-use Rattle.linux_model.specs.Effects.{Effect, FreesFile}
-use Rattle.linux_model.specs.Managed.{Managed}
+use Rattle.linux_model.specs.Effects.{Effect, FreesFile, Reaps}
+use Rattle.linux_model.specs.Managed.{Managed, managed_after}
 use Rattle.linux_model.specs.Processes.{process, is_live, has_file}
+use Rattle.proc_table.specs.Entries.{Table}
+use Rattle.proc_table.specs.declared.table.Reaped.{Reaped}
+use Rattle.proc_table.specs.declared.table.Reaped.TheVariants.{Child}
 use Rattle.manager.specs.declared.manager.Opened.{Opened}
+use Rattle.manager.specs.declared.fault.SpawnFault.{SpawnFault}
+use Rattle.manager.specs.declared.fault.SpawnFault.TheVariants.{TooMany, NoMemory}
 
 -- whether a process lives
 abbrev pub is_alive : ℕ → Managed → Bool
@@ -32,3 +37,18 @@ file_left other descs = None
 abbrev pub frees : Option FileNo → List Effect
 frees None = []
 frees (Some file) = FreesFile file.0 ∷ []
+
+-- what a parent has taken is gone
+abbrev pub after_reaped : Reaped → Managed → Managed
+after_reaped (Child pid status) m = managed_after (Reaps pid.0) m
+after_reaped other m = m
+
+-- the processes as proc_table has them
+abbrev pub table_of : Managed → Table
+table_of m = record { procs = m.procs; last = m.last }
+
+-- whether a new process is one too many
+abbrev pub is_too_many : {X : Type 0} → Result X SpawnFault → Bool
+is_too_many (Ok x) = false
+is_too_many (Err TooMany) = true
+is_too_many (Err NoMemory) = false

@@ -3,12 +3,15 @@
 ghost use Rattle.std.specs.Prelude.{◌≡◌, ◌==◌, ◌+◌, ◌-◌, ◌^◌, ◌<◌, ◌≤◌, ℕ, [], true, None, Some, if◌then◌else◌, is_some, length, slice_index, slice_set, IfOk};
 ghost use Rattle.kernel_objects.specs.Slots.{freed, held, next_slot, picks, slot, with_next};
 ghost use Rattle.linux_model.specs.Effects.{sought};
+ghost use Rattle.fd_table.specs.declared.fds.TheConstants.{DESCRIPTORS};
+ghost use Rattle.linux_model.specs.Fits.{EntriesFit};
 ghost use Rattle.linux_model.specs.Limits.{DESCRIPTIONS};
 ghost use Rattle.linux_model.specs.Processes.{has_file, is_file_object};
-ghost use Rattle.manager.specs.Counting.{OneFewer, OneMore};
+ghost use Rattle.manager.specs.Counting.{refers, slots_with, OneFewer, OneMore};
 
 use crate::counts::{Counts, NUMBERS};
 use crate::slots::put_next;
+use fd_table::{DESCRIPTORS, Fds};
 use kernel_objects::{Description, Object};
 use lego_base::{FileNo, NoMemory};
 use std::alloc::Global;
@@ -86,6 +89,21 @@ impl Descs {
         ensures refs { OneMore desc self.old.refs self.new.refs }
     {
         self.refs.add(desc);
+    }
+
+    /// One more descriptor refers to the description of each of these, which are a process's.
+    pub fn share_all(&mut self, fds: &Fds)
+        requires entries { EntriesFit self.old.descs fds.now }
+        requires slots { length fds.now ≡ DESCRIPTORS }
+        requires refs { (n : ℕ) → slice_index self.old.refs n < 2 ^ 31 }
+        ensures descs { self.new.descs ≡ self.old.descs }
+        ensures refs { (n : ℕ) → slice_index self.new.refs n ≡ slice_index self.old.refs n + slots_with (refers n) fds.now }
+    {
+        for fd in 0..DESCRIPTORS {
+            if let Some(entry) = fds.get(u64::from(fd)) {
+                self.share(entry.desc);
+            }
+        }
     }
 
     /// One descriptor fewer refers to a description. Where it was the last, the description goes, and is returned.

@@ -3,6 +3,7 @@
 
 mod counts;
 mod descs;
+mod fault;
 mod input;
 mod manager;
 mod pipes;

@@ -1,24 +1,25 @@
 //! The manager.
 
-ghost use Rattle.std.specs.Prelude.{◌≡◌, ◌==◌, ◌+◌, ◌-◌, ◌^◌, ◌<◌, ◌≤◌, ◌++◌, ℕ, [], ◌∷◌, true, false, Some, None, drop, filter, is_some, length, min, nat_lt, option_and_then, option_map, slice_index, slice_set, take, IfOk, IfSome, OnErr, OnOk};
+ghost use Rattle.std.specs.Prelude.{◌≡◌, ◌==◌, ◌+◌, ◌-◌, ◌^◌, ◌<◌, ◌≤◌, ◌++◌, ℕ, [], ◌∷◌, true, false, Some, None, drop, filter, is_some, length, min, nat_le, nat_lt, option_and_then, option_map, slice_index, slice_set, take, IfOk, IfSome, OnErr, OnOk};
 ghost use Rattle.fd_table.specs.declared.fds.TheConstants.{DESCRIPTORS};
-ghost use Rattle.kernel_objects.specs.Slots.{held, lowest_free, slot};
+ghost use Rattle.kernel_objects.specs.Slots.{held, holds_some, lowest_free, slot};
 ghost use Rattle.linux_model.specs.Descriptors.{closing, opened};
-ghost use Rattle.linux_model.specs.Effects.{bytes_in_pipe, Breaks, Closes, Goes, Keeps, Opens, PutsPipe, Returns, Seeks, Shares, Takes, TakesPipe};
-ghost use Rattle.linux_model.specs.Limits.{DESCRIPTIONS, PIPE_BYTES};
+ghost use Rattle.linux_model.specs.Effects.{bytes_in_pipe, Breaks, Closes, Dies, Forks, Goes, Keeps, Opens, PutsPipe, Returns, Seeks, Shares, Takes, TakesPipe};
+ghost use Rattle.linux_model.specs.Limits.{DESCRIPTIONS, PIPE_BYTES, PROCESSES};
 ghost use Rattle.linux_model.specs.Managed.{managed_after, managed_in, with_managed};
 ghost use Rattle.linux_model.specs.Processes.{fds_of, has_file, has_reader, has_writer, is_live, process};
 ghost use Rattle.linux_model.specs.State.{Kernel, Process, unbooted};
-ghost use Rattle.proc_table.specs.Entries.{proc_of};
+ghost use Rattle.proc_table.specs.Entries.{child_for, proc_of};
 ghost use Rattle.manager.specs.Tables.{PipeThere};
-ghost use Rattle.manager.specs.Words.{entry_of, file_left, frees, is_alive, open_of};
+ghost use Rattle.manager.specs.Words.{after_reaped, entry_of, file_left, frees, is_alive, is_too_many, open_of, table_of};
 
 use crate::descs::Descs;
+use crate::fault::SpawnFault;
 use crate::input::Input;
 use crate::pipes::{PipeState, Pipes};
 use kernel_objects::{Brk, Description, FdEntry, Object, Waiting};
 use lego_base::{Bytes, Exit, FileNo, NoMemory, Pid};
-use proc_table::{Proc, Procs};
+use proc_table::{Proc, Procs, Reaped};
 use rv64_step::Cpu;
 use std::alloc::Global;
 use std::marker::Model;
@@ -90,6 +91,49 @@ impl Manager {
         ensures { result ≡ option_map proc_of (process self.now.procs pid.0) }
     {
         self.procs.get(pid)
+    }
+
+    /// The parent of a process that lives; 0 where it has none.
+    pub fn parent(&self, pid: Pid) -> Pid
+        requires { is_alive pid.0 self.now ≡ true }
+        ensures { IfSome (process self.now.procs pid.0) (λ p. result.0 ≡ p.parent) }
+    {
+        self.known(pid).parent
+    }
+
+    /// The registers of a process that lives.
+    pub fn cpu(&self, pid: Pid) -> Cpu
+        requires { is_alive pid.0 self.now ≡ true }
+        ensures { IfSome (process self.now.procs pid.0) (λ p. result ≡ p.cpu) }
+    {
+        self.known(pid).cpu
+    }
+
+    /// The break of a process that lives.
+    pub fn brk(&self, pid: Pid) -> Brk
+        requires { is_alive pid.0 self.now ≡ true }
+        ensures { IfSome (process self.now.procs pid.0) (λ p. result ≡ p.brk) }
+    {
+        self.known(pid).brk
+    }
+
+    /// What is kept of the call of a process that lives, where it waits.
+    pub fn waiting(&self, pid: Pid) -> Option<Waiting>
+        requires { is_alive pid.0 self.now ≡ true }
+        ensures { IfSome (process self.now.procs pid.0) (λ p. result ≡ p.waiting) }
+    {
+        self.known(pid).waiting
+    }
+
+    // What is known of a process that lives.
+    fn known(&self, pid: Pid) -> Proc
+        requires { is_alive pid.0 self.now ≡ true }
+        ensures { IfSome (process self.now.procs pid.0) (λ p. result ≡ proc_of p) }
+    {
+        match self.procs.get(pid) {
+            Some(known) => known,
+            None => unreachable!(), // it lives
+        }
     }
 
     /// The registers of a process after an instruction.
@@ -281,6 +325,52 @@ impl Manager {
         let ended = self.descs.let_go(entry.desc)?;
         self.pipes.end(ended.object);
         file_left(&self.descs, ended.object)
+    }
+
+    /// A child of a process that lives, with these registers, as fork(2) makes it: it has the descriptors and the break of its
+    /// parent, and shares its descriptions.
+    pub fn fork(&mut self, alloc: Global, parent: Pid, cpu: Cpu) -> Result<Pid, SpawnFault>
+        requires alive { is_alive parent.0 self.old ≡ true }
+        requires last { self.old.last < 2 ^ 32 - 1 }
+        ensures ok { OnOk result (self.new ≡ managed_after (Forks parent.0 (self.old.last + 1) cpu) self.old) }
+        ensures pid { IfOk result (λ pid. pid.0 ≡ self.old.last + 1) }
+        ensures limit { is_too_many result ≡ nat_le PROCESSES (length self.old.procs) }
+        ensures err { OnErr result (self.new ≡ self.old) }
+    {
+        if self.procs.is_full() {
+            return Err(SpawnFault::TooMany);
+        }
+        let fds = self.procs.copy_fds(parent, alloc)?;
+        let brk = self.known(parent).brk;
+        self.descs.share_all(&fds);
+        Ok(self.procs.spawn(parent, cpu, brk, fds)?)
+    }
+
+    /// A process dies with a wait status, as wait(2) gives it; its descriptors were closed before. The exit is recorded, and its
+    /// children get process 1 as their parent where that lives, else none.
+    pub fn die(&mut self, pid: Pid, status: u32) -> Result<(), NoMemory>
+        requires closed { holds_some (λ e. true) (fds_of (process self.old.procs pid.0)) ≡ false }
+        ensures ok { OnOk result (self.new ≡ managed_after (Dies pid.0 status) self.old) }
+        ensures err { OnErr result (self.new ≡ self.old) }
+    {
+        self.exits.push(Exit { pid, status })?;
+        self.procs.die(pid, status);
+        Ok(())
+    }
+
+    /// What a parent finds that waits for a child of a pid, or for any (-1): the dead one of least pid.
+    pub fn child(&self, parent: Pid, want: i64) -> Reaped
+        ensures { result ≡ child_for parent.0 want (table_of self.now) }
+    {
+        self.procs.child(parent, want)
+    }
+
+    /// The same, and the dead child is gone.
+    pub fn reap(&mut self, parent: Pid, want: i64) -> Reaped
+        ensures found { result ≡ child_for parent.0 want (table_of self.old) }
+        ensures gone { self.new ≡ after_reaped result self.old }
+    {
+        self.procs.reap(parent, want)
     }
 
     /// The exits in order.
