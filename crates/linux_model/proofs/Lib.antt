@@ -5,5 +5,6 @@ pub mod Looking
 pub mod Loading
 pub mod Booting
 pub mod Holding
+pub mod Managing
 pub mod fits
 pub mod rows

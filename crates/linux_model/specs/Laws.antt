@@ -1,5 +1,5 @@
 -- What a reader may ask of the flat run.
-use Rattle.std.specs.Prelude.{◌≡◌, ℕ, ◌+◌, true, List, [], ◌∷◌, ◌++◌}
+use Rattle.std.specs.Prelude.{◌≡◌, ℕ, ◌+◌, true, false, List, [], ◌∷◌, ◌++◌}
 use Rattle.lego_base.specs.declared.report.FileOut.{FileOut}
 use Rattle.lego_base.specs.Space.{Space, no_space, with_space}
 use Rattle.elf_image.specs.Image.{Program}
@@ -11,6 +11,7 @@ use Rattle.linux_model.specs.ProcessCalls.{list_at}
 use Rattle.linux_model.specs.Loading.{loads_program, start_space}
 use Rattle.linux_model.specs.Boot.{boot_of, file_effects, booted_process, streams}
 use Rattle.linux_model.specs.Held.{Held, held_in, held_after, held_after_all, is_apart}
+use Rattle.linux_model.specs.Managed.{Managed, managed_in, managed_after, managed_after_all}
 use Rattle.linux_model.specs.Fits.{Fits, AllAllowed}
 use Rattle.linux_model.specs.Turns.{Schedule, flat, flat_effects, is_over}
 
@@ -64,6 +65,11 @@ HeldGoesAlone = (es : List Effect) (k : Kernel) → held_in (applies es k) ≡ h
 -- What is the manager's alone changes nothing of them.
 abbrev pub ApartStays : Type 0
 ApartStays = (e : Effect) (h : Held) → is_apart e ≡ true → held_after e h ≡ h
+
+-- What effects make of the manager's part depends on that part alone, and an effect that isn't its own changes nothing of it.
+pub record ManagedGoesAlone : Type 0 where
+  pub alone : (es : List Effect) (k : Kernel) → managed_in (applies es k) ≡ managed_after_all es (managed_in k)
+  pub others : (e : Effect) (m : Managed) → is_apart e ≡ false → managed_after e m ≡ m
 
 -- ---- what holds of every kernel that a run reaches
 

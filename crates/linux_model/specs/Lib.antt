@@ -15,5 +15,6 @@ pub mod Calls
 pub mod Turns
 pub mod Boot
 pub mod Held
+pub mod Managed
 pub mod Fits
 pub mod Laws

@@ -8,7 +8,7 @@
 //! turn 0. The functions below have laws as their contracts that a reader may ask for.
 #![tactic(auto)]
 
-ghost use Rattle.linux_model.specs.Laws.{AllowedKeepsWhatFits, ApartStays, BootingStartsTheFirst, EveryKernelFits, HeldGoesAlone, LoadingBuildsTheSpace, LookingIsStill, OutputOnlyGrows, RunIsItsEffects, TheEndIsTheEnd};
+ghost use Rattle.linux_model.specs.Laws.{AllowedKeepsWhatFits, ApartStays, BootingStartsTheFirst, EveryKernelFits, HeldGoesAlone, LoadingBuildsTheSpace, LookingIsStill, ManagedGoesAlone, OutputOnlyGrows, RunIsItsEffects, TheEndIsTheEnd};
 
 /// The run is what its list of effects makes of the kernel that was booted.
 pub fn run_is_its_effects()
@@ -50,6 +50,12 @@ pub fn what_is_held_goes_alone()
 /// Effects on processes, descriptors, pipes and input change nothing of them.
 pub fn what_is_apart_stays()
     ensures { ApartStays }
+{}
+
+/// What effects make of processes, descriptions, pipes, input and exits, which the manager holds, depends on these alone, and
+/// other effects change nothing of them.
+pub fn what_is_managed_goes_alone()
+    ensures { ManagedGoesAlone }
 {}
 
 /// Effects that ask for no more than what is there keep what fits.

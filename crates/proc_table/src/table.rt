@@ -110,6 +110,13 @@ impl Procs {
         self.last
     }
 
+    /// Whether there is room for no further process.
+    pub fn is_full(&self) -> bool
+        ensures { result ≡ nat_le MOST_PROCESSES (length self.now.procs) }
+    {
+        self.entries.len() >= MOST_PROCESSES
+    }
+
     /// How many processes live.
     pub fn live(&self) -> u32
         ensures { result ≡ length (filter (λ p. is_live p.state) self.now.procs) }
@@ -153,6 +160,33 @@ impl Procs {
             Some(entry) => Some(entry.pid),
             None => None,
         }
+    }
+
+    /// The same with what is known of it.
+    pub fn at(&self, place: u32) -> Option<(Pid, Proc)>
+        ensures { result ≡ option_map (λ p. (record { 0 = p.pid }, proc_of p)) (slice_get self.now.procs place) }
+    {
+        match self.entries.get(place as usize) {
+            Some(entry) => Some((entry.pid, known_of(entry))),
+            None => None,
+        }
+    }
+
+    /// What a descriptor of the process at a place is; `None` where it isn't open, or there is no such process.
+    pub fn fd_at(&self, place: u32, fd: u64) -> Option<FdEntry>
+        ensures { result ≡ slot (fds_of (slice_get self.now.procs place)) fd }
+    {
+        match self.entries.get(place as usize) {
+            Some(entry) => entry.fds.get(fd),
+            None => None,
+        }
+    }
+
+    /// A copy of the descriptors of a process, as fork(2) gives it to a child; all free where there is no such process.
+    pub fn copy_fds(&self, pid: Pid, alloc: Global) -> Result<Fds, NoMemory>
+        ensures { IfOk result (λ fds. IfSome (process self.now.procs pid.0) (λ p. fds ≡ p.fds)) }
+    {
+        copied_fds(self.entries.as_slice(), pid, alloc)
     }
 
     /// What a descriptor of a process is; `None` where it isn't open, or there is no such process.
@@ -284,6 +318,17 @@ fn fd_in(entries: &[Entry], pid: Pid, fd: u64) -> Option<FdEntry>
         }
     }
     None
+}
+
+fn copied_fds(entries: &[Entry], pid: Pid, alloc: Global) -> Result<Fds, NoMemory>
+    ensures { IfOk result (λ fds. IfSome (process (map process_of entries.now) pid.0) (λ p. fds ≡ p.fds)) }
+{
+    for entry in entries.iter() {
+        if entry.pid == pid {
+            return entry.fds.copy(alloc);
+        }
+    }
+    Fds::new(alloc)
 }
 
 fn free_in(entries: &[Entry], pid: Pid, from: u32) -> Option<u32>

@@ -1,0 +1,4 @@
+pub mod Counting
+pub mod Tables
+pub mod Sound
+pub mod Words

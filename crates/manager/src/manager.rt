@@ -1,0 +1,398 @@
+//! The manager.
+
+ghost use Rattle.std.specs.Prelude.{◌≡◌, ◌==◌, ◌+◌, ◌-◌, ◌^◌, ◌<◌, ◌≤◌, ◌++◌, ℕ, [], ◌∷◌, true, false, Some, None, drop, filter, is_some, length, min, nat_le, nat_lt, option_and_then, option_map, slice_index, slice_set, take, IfOk, IfSome, OnErr, OnOk};
+ghost use Rattle.fd_table.specs.declared.fds.TheConstants.{DESCRIPTORS};
+ghost use Rattle.kernel_objects.specs.Slots.{held, holds_some, lowest_free, slot};
+ghost use Rattle.linux_model.specs.Descriptors.{closing, opened};
+ghost use Rattle.linux_model.specs.Effects.{bytes_in_pipe, Breaks, Closes, Dies, Forks, Goes, Keeps, Opens, PutsPipe, Returns, Seeks, Shares, Takes, TakesPipe};
+ghost use Rattle.linux_model.specs.Limits.{DESCRIPTIONS, PIPE_BYTES, PROCESSES};
+ghost use Rattle.linux_model.specs.Managed.{managed_after, managed_in, with_managed};
+ghost use Rattle.linux_model.specs.Processes.{fds_of, has_file, has_reader, has_writer, is_live, process};
+ghost use Rattle.linux_model.specs.State.{Kernel, Process, unbooted};
+ghost use Rattle.proc_table.specs.Entries.{child_for, proc_of};
+ghost use Rattle.manager.specs.Tables.{PipeThere};
+ghost use Rattle.manager.specs.Words.{after_reaped, entry_of, file_left, frees, is_alive, is_too_many, open_of, table_of};
+
+use crate::descs::Descs;
+use crate::fault::SpawnFault;
+use crate::input::Input;
+use crate::pipes::{PipeState, Pipes};
+use kernel_objects::{Brk, Description, FdEntry, Object, Waiting};
+use lego_base::{Bytes, Exit, FileNo, NoMemory, Pid};
+use proc_table::{Proc, Procs, Reaped};
+use rv64_step::Cpu;
+use std::alloc::Global;
+use std::marker::Model;
+
+/// What a descriptor is open on.
+#[derive(Clone, Copy, Debug, PartialEq, Eq)]
+pub struct Opened {
+    /// The description's slot, below 1024.
+    pub desc: u16,
+    pub is: Description,
+    /// Whether execve(2) closes the descriptor.
+    pub cloexec: bool,
+}
+
+/// The processes with their descriptors, the descriptions, the pipes, what is left of standard input, and the exits.
+#[derive(Drop)]
+pub struct Manager {
+    procs: Procs,
+    descs: Descs,
+    pipes: Pipes,
+    input: Input,
+    exits: Vec<Exit>,
+}
+
+impl Model for Manager {
+    ghost use Rattle.linux_model.specs.Managed.{Managed};
+    ghost use Rattle.manager.specs.Sound.{Sound};
+
+    ghost Value = { Managed };
+
+    ghost view = { λ m. record { procs = m.procs.procs; last = m.procs.last; descs = m.descs.descs; pipes = m.pipes.pipes; input = m.input; exits = m.exits.items } };
+
+    ghost invariant = { λ m. Sound m.procs m.descs m.pipes };
+}
+
+impl Manager {
+    /// No process, and this on standard input. Takes the memory for all tables.
+    pub fn new(alloc: Global, input: Bytes) -> Result<Manager, NoMemory>
+        ensures { IfOk result (λ m. m ≡ managed_in (unbooted input)) }
+    {
+        let procs = Procs::new(alloc)?;
+        let descs = Descs::new(alloc)?;
+        let pipes = Pipes::new(alloc)?;
+        Ok(Manager {
+            procs,
+            descs,
+            pipes,
+            input: Input::new(input),
+            exits: Vec::new(alloc),
+        })
+    }
+
+    /// How many processes live.
+    pub fn live(&self) -> u32
+        ensures { result ≡ length (filter (λ p. is_live p.state) self.now.procs) }
+    {
+        self.procs.live()
+    }
+
+    /// The pid that was given last; 0 before the first.
+    pub fn last(&self) -> u32
+        ensures { result ≡ self.now.last }
+    {
+        self.procs.last()
+    }
+
+    /// What is known of a process; `None` exactly where it isn't there.
+    pub fn get(&self, pid: Pid) -> Option<Proc>
+        ensures { result ≡ option_map proc_of (process self.now.procs pid.0) }
+    {
+        self.procs.get(pid)
+    }
+
+    /// The parent of a process that lives; 0 where it has none.
+    pub fn parent(&self, pid: Pid) -> Pid
+        requires { is_alive pid.0 self.now ≡ true }
+        ensures { IfSome (process self.now.procs pid.0) (λ p. result.0 ≡ p.parent) }
+    {
+        self.known(pid).parent
+    }
+
+    /// The registers of a process that lives.
+    pub fn cpu(&self, pid: Pid) -> Cpu
+        requires { is_alive pid.0 self.now ≡ true }
+        ensures { IfSome (process self.now.procs pid.0) (λ p. result ≡ p.cpu) }
+    {
+        self.known(pid).cpu
+    }
+
+    /// The break of a process that lives.
+    pub fn brk(&self, pid: Pid) -> Brk
+        requires { is_alive pid.0 self.now ≡ true }
+        ensures { IfSome (process self.now.procs pid.0) (λ p. result ≡ p.brk) }
+    {
+        self.known(pid).brk
+    }
+
+    /// What is kept of the call of a process that lives, where it waits.
+    pub fn waiting(&self, pid: Pid) -> Option<Waiting>
+        requires { is_alive pid.0 self.now ≡ true }
+        ensures { IfSome (process self.now.procs pid.0) (λ p. result ≡ p.waiting) }
+    {
+        self.known(pid).waiting
+    }
+
+    // What is known of a process that lives.
+    fn known(&self, pid: Pid) -> Proc
+        requires { is_alive pid.0 self.now ≡ true }
+        ensures { IfSome (process self.now.procs pid.0) (λ p. result ≡ proc_of p) }
+    {
+        match self.procs.get(pid) {
+            Some(known) => known,
+            None => unreachable!(), // it lives
+        }
+    }
+
+    /// The registers of a process after an instruction.
+    pub fn set_cpu(&mut self, pid: Pid, cpu: Cpu)
+        ensures { self.new ≡ managed_after (Goes pid.0 cpu) self.old }
+    {
+        self.procs.set_cpu(pid, cpu);
+    }
+
+    /// The registers of a process after a call, which doesn't wait any more.
+    pub fn returns(&mut self, pid: Pid, cpu: Cpu)
+        ensures { self.new ≡ managed_after (Returns pid.0 cpu) self.old }
+    {
+        self.procs.set_cpu(pid, cpu);
+        self.procs.set_waiting(pid, None);
+    }
+
+    /// The break of a process, as in brk(2).
+    pub fn set_brk(&mut self, pid: Pid, brk: Brk)
+        ensures { self.new ≡ managed_after (Breaks pid.0 brk.base brk.now) self.old }
+    {
+        self.procs.set_brk(pid, brk);
+    }
+
+    /// The call of a process waits.
+    pub fn set_waiting(&mut self, pid: Pid, waiting: Waiting)
+        ensures { self.new ≡ managed_after (Keeps pid.0 waiting.moved waiting.len) self.old }
+    {
+        self.procs.set_waiting(pid, Some(waiting));
+    }
+
+    /// What a descriptor of a process is open on; `None` exactly where it isn't open.
+    pub fn opened(&self, pid: Pid, fd: u64) -> Option<Opened>
+        ensures entry { option_map entry_of result ≡ slot (fds_of (process self.now.procs pid.0)) fd }
+        ensures is { (k : Kernel) → option_map open_of result ≡ option_and_then (λ p. opened p fd (with_managed self.now k)) (process self.now.procs pid.0) }
+    {
+        let entry = self.procs.fd(pid, fd)?;
+        let is = self.descs.get(entry.desc)?;
+        Some(Opened {
+            desc: entry.desc,
+            is,
+            cloexec: entry.cloexec,
+        })
+    }
+
+    /// The lowest free descriptor of a process, not below `from`.
+    pub fn lowest_free(&self, pid: Pid, from: u32) -> Option<u32>
+        ensures free { result ≡ lowest_free (fds_of (process self.now.procs pid.0)) from }
+        ensures within { IfSome result (λ fd. fd < DESCRIPTORS) }
+    {
+        self.procs.lowest_free(pid, from)
+    }
+
+    /// How many more descriptions may be open: there are at most 1024.
+    pub fn room(&self) -> u32
+        ensures { result ≡ DESCRIPTIONS - length (held self.now.descs) }
+    {
+        self.descs.room()
+    }
+
+    /// The offset of a description that is there becomes this.
+    pub fn set_offset(&mut self, desc: u16, offset: u64)
+        requires { is_some (slot self.old.descs desc) ≡ true }
+        ensures { self.new ≡ managed_after (Seeks desc offset) self.old }
+    {
+        self.descs.seek(desc, offset);
+    }
+
+    /// Whether a description is open on a file.
+    pub fn has_file(&self, file: FileNo) -> bool
+        ensures { result ≡ has_file file.0 self.now.descs }
+    {
+        self.descs.has_file(file)
+    }
+
+    /// What is in a pipe that is there, and who has it open.
+    pub fn pipe_state(&self, pipe: u16) -> PipeState
+        requires { is_some (slot self.now.pipes pipe) ≡ true }
+        ensures len { result.len ≡ length (bytes_in_pipe (slot self.now.pipes pipe)) }
+        ensures room { result.room ≡ PIPE_BYTES - length (bytes_in_pipe (slot self.now.pipes pipe)) }
+        ensures readers { nat_lt 0 result.readers ≡ has_reader pipe self.now.descs }
+        ensures writers { nat_lt 0 result.writers ≡ has_writer pipe self.now.descs }
+    {
+        self.pipes.state(pipe)
+    }
+
+    /// Puts the first of some bytes into a pipe that is there, as many as fit, and returns how many these are.
+    pub fn pipe_put(&mut self, pipe: u16, bytes: &[u8]) -> usize
+        requires { is_some (slot self.old.pipes pipe) ≡ true }
+        ensures count { result ≡ min (length bytes.now) (PIPE_BYTES - length (bytes_in_pipe (slot self.old.pipes pipe))) }
+        ensures put { self.new ≡ managed_after (PutsPipe pipe (take result bytes.now)) self.old }
+    {
+        self.pipes.put(pipe, bytes)
+    }
+
+    /// Takes the oldest bytes out of a pipe that is there, as many as there are and as the buffer holds, and returns how many
+    /// these are. The rest of the buffer stays as it is.
+    pub fn pipe_take(&mut self, pipe: u16, buf: &mut [u8]) -> usize
+        requires { is_some (slot self.old.pipes pipe) ≡ true }
+        ensures count { result ≡ min (length buf.old) (length (bytes_in_pipe (slot self.old.pipes pipe))) }
+        ensures buf { buf.new ≡ take result (bytes_in_pipe (slot self.old.pipes pipe)) ++ drop result buf.old }
+        ensures taken { self.new ≡ managed_after (TakesPipe pipe result) self.old }
+    {
+        self.pipes.take(pipe, buf)
+    }
+
+    /// Copies the bytes that `pipe_take` would take, and leaves them in.
+    pub fn pipe_peek(&self, pipe: u16, buf: &mut [u8]) -> usize
+        requires { is_some (slot self.now.pipes pipe) ≡ true }
+        ensures count { result ≡ min (length buf.old) (length (bytes_in_pipe (slot self.now.pipes pipe))) }
+        ensures buf { buf.new ≡ take result (bytes_in_pipe (slot self.now.pipes pipe)) ++ drop result buf.old }
+    {
+        self.pipes.peek(pipe, buf)
+    }
+
+    /// How many bytes of standard input are left.
+    pub fn input_left(&self) -> usize
+        ensures { result ≡ length self.now.input }
+    {
+        self.input.left()
+    }
+
+    /// Takes the next bytes of standard input, as many as there are and as the buffer holds, and returns how many these are.
+    /// The rest of the buffer stays as it is.
+    pub fn take_input(&mut self, buf: &mut [u8]) -> usize
+        ensures count { result ≡ min (length buf.old) (length self.old.input) }
+        ensures buf { buf.new ≡ take result self.old.input ++ drop result buf.old }
+        ensures taken { self.new ≡ managed_after (Takes result) self.old }
+    {
+        self.input.take(buf)
+    }
+
+    /// Copies the bytes that `take_input` would take, and leaves them.
+    pub fn peek_input(&self, buf: &mut [u8]) -> usize
+        ensures count { result ≡ min (length buf.old) (length self.now.input) }
+        ensures buf { buf.new ≡ take result self.now.input ++ drop result buf.old }
+    {
+        self.input.peek(buf)
+    }
+
+    /// A free descriptor of a process that lives gets the description of another one, as dup(2) and dup3(2) share it.
+    pub fn dup(&mut self, pid: Pid, from: u32, to: u32, cloexec: bool)
+        requires alive { is_alive pid.0 self.old ≡ true }
+        requires from { is_some (slot (fds_of (process self.old.procs pid.0)) from) ≡ true }
+        requires to { to < DESCRIPTORS }
+        requires free { slot (fds_of (process self.old.procs pid.0)) to ≡ None }
+        ensures { IfSome (slot (fds_of (process self.old.procs pid.0)) from) (λ e. self.new ≡ managed_after (Shares pid.0 to e.desc cloexec) self.old) }
+    {
+        if let Some(entry) = self.procs.fd(pid, u64::from(from)) {
+            self.descs.share(entry.desc);
+            let shared = FdEntry {
+                desc: entry.desc,
+                cloexec,
+            };
+            self.procs.set_fd(pid, to, Some(shared));
+        }
+    }
+
+    /// A new description, at offset 0, of an object with the flags of open(2), for a free descriptor of a process that lives.
+    pub fn open(&mut self, pid: Pid, fd: u32, object: Object, flags: u32, cloexec: bool)
+        requires alive { is_alive pid.0 self.old ≡ true }
+        requires fd { fd < DESCRIPTORS }
+        requires free { slot (fds_of (process self.old.procs pid.0)) fd ≡ None }
+        requires pipe { PipeThere self.old.pipes object }
+        requires room { length (held self.old.descs) < DESCRIPTIONS }
+        ensures { self.new ≡ managed_after (Opens pid.0 fd object flags cloexec) self.old }
+    {
+        let description = Description {
+            object,
+            offset: 0,
+            flags,
+        };
+        let entry = FdEntry {
+            desc: self.descs.add(description),
+            cloexec,
+        };
+        self.pipes.begin(object);
+        self.procs.set_fd(pid, fd, Some(entry));
+    }
+
+    /// Closes a descriptor, as in close(2), where it is open. Returns the file whose last description ended with it. A pipe
+    /// goes with its last end.
+    pub fn close(&mut self, pid: Pid, fd: u32) -> Option<FileNo>
+        ensures closed { self.new ≡ managed_after (Closes pid.0 fd) self.old }
+        ensures frees { (k : Kernel) → closing pid.0 fd (with_managed self.old k) ≡ Closes pid.0 fd ∷ frees result }
+    {
+        let entry = self.procs.fd(pid, u64::from(fd))?;
+        self.procs.set_fd(pid, fd, None);
+        let ended = self.descs.let_go(entry.desc)?;
+        self.pipes.end(ended.object);
+        file_left(&self.descs, ended.object)
+    }
+
+    /// A child of a process that lives, with these registers, as fork(2) makes it: it has the descriptors and the break of its
+    /// parent, and shares its descriptions.
+    pub fn fork(&mut self, alloc: Global, parent: Pid, cpu: Cpu) -> Result<Pid, SpawnFault>
+        requires alive { is_alive parent.0 self.old ≡ true }
+        requires last { self.old.last < 2 ^ 32 - 1 }
+        ensures ok { OnOk result (self.new ≡ managed_after (Forks parent.0 (self.old.last + 1) cpu) self.old) }
+        ensures pid { IfOk result (λ pid. pid.0 ≡ self.old.last + 1) }
+        ensures limit { is_too_many result ≡ nat_le PROCESSES (length self.old.procs) }
+        ensures err { OnErr result (self.new ≡ self.old) }
+    {
+        if self.procs.is_full() {
+            return Err(SpawnFault::TooMany);
+        }
+        let fds = self.procs.copy_fds(parent, alloc)?;
+        let brk = self.known(parent).brk;
+        self.descs.share_all(&fds);
+        Ok(self.procs.spawn(parent, cpu, brk, fds)?)
+    }
+
+    /// A process dies with a wait status, as wait(2) gives it; its descriptors were closed before. The exit is recorded, and its
+    /// children get process 1 as their parent where that lives, else none.
+    pub fn die(&mut self, pid: Pid, status: u32) -> Result<(), NoMemory>
+        requires closed { holds_some (λ e. true) (fds_of (process self.old.procs pid.0)) ≡ false }
+        ensures ok { OnOk result (self.new ≡ managed_after (Dies pid.0 status) self.old) }
+        ensures err { OnErr result (self.new ≡ self.old) }
+    {
+        self.exits.push(Exit { pid, status })?;
+        self.procs.die(pid, status);
+        Ok(())
+    }
+
+    /// What a parent finds that waits for a child of a pid, or for any (-1): the dead one of least pid.
+    pub fn child(&self, parent: Pid, want: i64) -> Reaped
+        ensures { result ≡ child_for parent.0 want (table_of self.now) }
+    {
+        self.procs.child(parent, want)
+    }
+
+    /// The same, and the dead child is gone.
+    pub fn reap(&mut self, parent: Pid, want: i64) -> Reaped
+        ensures found { result ≡ child_for parent.0 want (table_of self.old) }
+        ensures gone { self.new ≡ after_reaped result self.old }
+    {
+        self.procs.reap(parent, want)
+    }
+
+    /// The exits in order.
+    pub fn exits(&self) -> &[Exit]
+        ensures { result.now ≡ self.now.exits }
+    {
+        self.exits.as_slice()
+    }
+}
+
+// The file of an object whose description has ended, where no other description is open on it.
+fn file_left(descs: &Descs, object: Object) -> Option<FileNo>
+    ensures { result ≡ file_left object descs.now.descs }
+{
+    match object {
+        Object::Regular(file) => {
+            if descs.has_file(file) {
+                None
+            } else {
+                Some(file)
+            }
+        }
+        _ => None,
+    }
+}
