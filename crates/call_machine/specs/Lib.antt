@@ -1,5 +1,6 @@
 pub mod Effects
 pub mod Lawful
 pub mod Laws
+pub mod Lent
 pub mod Made
 pub mod Tried

@@ -9,8 +9,10 @@
 ghost use Rattle.call_machine.specs.Laws.{StopsFollow};
 
 pub mod errno;
+mod end;
 mod machine;
 
+pub use end::CallEnd;
 pub use machine::Machine;
 
 #[cfg(test)]

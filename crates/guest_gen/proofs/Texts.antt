@@ -1,5 +1,5 @@
 -- What is written of a plan has no floats and nests two deep.
-use Rattle.std.proofs.Common.{◌≡◌, ℕ, suc, ◌≤◌, List, [], ◌∷◌, Bool, false, ◌||◌, max, map, refl, ap, sym, subst, ◌∙◌, arith, Result, Ok, Err, IfOk}
+use Rattle.std.proofs.Common.{◌≡◌, ℕ, suc, ◌≤◌, List, [], ◌∷◌, false, ◌||◌, max, map, refl, ap, sym, subst, ◌∙◌, arith, Result, Ok, Err, IfOk}
 use Rattle.serde_json.specs.Data.{Data, number, unsigned, depth, items_depth}
 use Rattle.serde_json.specs.Read.{max_depth}
 use Rattle.serde_json.specs.View.{items_of}

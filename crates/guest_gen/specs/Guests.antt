@@ -4,7 +4,6 @@ use Rattle.lego_base.specs.declared.shape.Shape.{Shape}
 use Rattle.desc_read.specs.declared.plan.Plan.{Plan}
 use Rattle.desc_read.specs.Plans.{memory}
 use Rattle.guest_gen.specs.declared.guest.Generated.{Generated}
-use Rattle.guest_gen.specs.declared.job.Job.{Job}
 use Rattle.guest_gen.specs.Draws.{drawn, draws, next, after}
 use Rattle.guest_gen.specs.Jobs.{drawn_jobs, after_jobs, program}
 use Rattle.guest_gen.specs.Assembly.{bytes_of_steps}

@@ -1,7 +1,6 @@
 -- The text of a generated program's description: compact JSON of the fields that it names, by name.
 use Rattle.std.specs.Prelude.{ℕ, List, map, codes}
-use Rattle.lego_base.specs.declared.ids.MemId.{MemId}
-use Rattle.serde_json.specs.Data.{Data, number, unsigned, string, array, object, Members, member, no_members}
+use Rattle.serde_json.specs.Data.{Data, number, unsigned, string, array, object, member, no_members}
 use Rattle.serde_json.specs.View.{items_of}
 use Rattle.serde_json.specs.Written.{compact_text}
 use Rattle.desc_read.specs.declared.plan.Plan.{Plan}

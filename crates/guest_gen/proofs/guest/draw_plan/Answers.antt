@@ -1,5 +1,4 @@
-use Rattle.std.proofs.Common.{◌≡◌, ◌∙◌, ℕ, List, IfOk, ap, subst}
-use Rattle.lego_base.specs.declared.shape.Shape.{Shape}
+use Rattle.std.proofs.Common.{◌≡◌, ◌∙◌, ℕ, IfOk, ap, subst}
 use Rattle.desc_read.specs.declared.plan.Plan.{Plan}
 use Rattle.guest_gen.specs.Draws.{after, draws}
 use Rattle.guest_gen.specs.Guests.{plan_drawn, plan_with, shape_for}

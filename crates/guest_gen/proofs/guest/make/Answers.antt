@@ -1,4 +1,4 @@
-use Rattle.std.proofs.Common.{◌≡◌, ◌∙◌, ◌+◌, ◌<◌, Fits, w32, ap, arith}
+use Rattle.std.proofs.Common.{◌∙◌, ◌<◌, ap, arith}
 use Rattle.guest_gen.specs.Jobs.{program}
 use Rattle.guest_gen.specs.Assembly.{bytes_of_steps}
 use Rattle.guest_gen.specs.Image.{image_of}

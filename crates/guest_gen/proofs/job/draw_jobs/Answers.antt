@@ -1,4 +1,4 @@
-use Rattle.std.proofs.Common.{◌≡◌, ◌∙◌, ◌-◌, ℕ, suc, List, ◌∷◌, ap, sym, arith}
+use Rattle.std.proofs.Common.{◌≡◌, ◌∙◌, ◌-◌, ℕ, suc, ◌∷◌, ap, sym, arith}
 use Rattle.guest_gen.specs.Jobs.{after_jobs, drawn_jobs}
 use Rattle.guest_gen.proofs.OneByOne.{one_more}
 use Rattle.guest_gen.proofs.job.draw_jobs.Goals as goal

@@ -1,4 +1,4 @@
-use Rattle.std.proofs.Common.{◌≡◌, ◌∙◌, Some, ap}
+use Rattle.std.proofs.Common.{◌∙◌, Some, ap}
 use Rattle.serde_json.specs.Data.{Data}
 use Rattle.guest_gen.proofs.Texts.{few_in, if_made, none_in, text_is}
 use Rattle.guest_gen.proofs.text.plan_bytes.Goals as goal

@@ -1,5 +1,5 @@
-use Rattle.std.proofs.Common.{◌≡◌, ◌∙◌, ◌-◌, ℕ, suc, List, ◌∷◌, ap, sym, arith}
-use Rattle.guest_gen.specs.Draws.{after, draws, next}
+use Rattle.std.proofs.Common.{◌≡◌, ◌∙◌, ◌-◌, ℕ, suc, ◌∷◌, ap, sym, arith}
+use Rattle.guest_gen.specs.Draws.{after, draws}
 use Rattle.guest_gen.proofs.OneByOne.{one_more}
 use Rattle.guest_gen.proofs.draws.Draws.bytes.Goals as goal
 
