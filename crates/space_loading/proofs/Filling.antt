@@ -1,5 +1,5 @@
 -- Fills, one after the other.
-use Rattle.std.proofs.Common.{◌≡◌, ℕ, ◌+◌, refl, sym, ◌∙◌, ap, subst, eqb, cond, List, [], ◌∷◌, ◌++◌, map, append_assoc, append-nil, Option, Some, None, All, arith}
+use Rattle.std.proofs.Common.{◌≡◌, ℕ, ◌+◌, refl, sym, ◌∙◌, ap, subst, eqb, List, [], ◌∷◌, ◌++◌, map, append_assoc, append-nil, Some, None, arith}
 use Rattle.std.proofs.lemmas.Bool.{eq-eqb, cond-true}
 use Rattle.lego_base.specs.Space.{Space, with_bytes, with_space}
 use Rattle.elf_image.specs.declared.image.Segment.{Segment}

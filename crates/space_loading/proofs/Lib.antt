@@ -5,3 +5,4 @@ pub mod Parts
 pub mod Rising
 pub mod Stacking
 pub mod Stepping
+pub mod Tried

@@ -1,27 +1,19 @@
 -- A program that is loaded: its pages, its loads, its stack.
-use Rattle.std.proofs.Common.{◌≡◌, ℕ, ◌+◌, ◌≤◌, ◌<◌, refl, sym, ◌∙◌, ap, subst, List, [], ◌∷◌, ◌++◌, map, length, Option, Some, None, IsSome, All}
-use Rattle.lego_base.specs.declared.perms.Perms.{Perms}
+use Rattle.std.proofs.Common.{◌≡◌, ℕ, refl, sym, ◌∙◌, ap, subst, List, [], ◌∷◌, ◌++◌, map, length, IsSome, All}
 use Rattle.lego_base.specs.declared.records.Area.{Area}
-use Rattle.lego_base.specs.Space.{Space, no_space, perms_of}
+use Rattle.lego_base.specs.Space.{Space, perms_of}
 use Rattle.elf_image.specs.declared.image.Segment.{Segment}
 use Rattle.elf_image.specs.Image.{Program, IsBoundedSegment}
-use Rattle.space_rules.specs.Mapped.{image_areas_of, stack_page, stack_pages}
+use Rattle.space_rules.specs.Mapped.{image_areas_of}
 use Rattle.space_rules.specs.Start.{sp_of, stack_bytes}
 use Rattle.kernel_model.specs.Boot.{filled_pages, pages_met}
 use Rattle.linux_model.specs.Effects.{Effect, Maps}
 use Rattle.linux_model.specs.Held.{Held, held_after, held_after_all}
 use Rattle.linux_model.specs.Loading.{cut, load_fills, loads_program, page_fill}
-use Rattle.call_machine.specs.Effects.{KeepsPages}
 use Rattle.call_machine.specs.Lawful.{Lawful}
 use Rattle.space_loading.proofs.Filling.{fill_maps_nothing, here}
 use Rattle.space_loading.proofs.Parts.{stack_mapped}
 use Rattle.space_loading.proofs.Stacking.{Mapped}
-
--- where nothing is mapped, each page that is mapped is mapped
-pub bare_keeps : (space : Space) (areas : List Area) → space ≡ no_space → KeepsPages space.areas areas
-bare_keeps space areas e page some =
-    let no : IsSome {T = Perms} None = subst (λ (s : Space). IsSome (perms_of s.areas page)) e some in
-    cc no
 
 maps_areas : (pid : ℕ) (areas : List Area) (h : Held) → ((held_after (Maps pid areas) h).space pid).areas ≡ areas
 maps_areas pid areas h = ap (λ (s : Space). s.areas) (here h.space pid (record (h.space pid) { areas = areas }))

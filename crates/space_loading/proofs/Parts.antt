@@ -1,13 +1,11 @@
 -- What the loads have in a page that is filled.
-use Rattle.std.proofs.Common.{◌≡◌, ℕ, zero, suc, ◌+◌, ◌-◌, ◌*◌, ◌/◌, ◌^◌, ◌≤◌, ◌<◌, ◌⊎◌, inl, inr, Bool, true, false, cond, ◌&&◌, eqb, leb, ltb, min, max, refl, sym, ◌∙◌, ap, subst, List, [], ◌∷◌, length, Option, Some, None, IsSome, All, arith}
+use Rattle.std.proofs.Common.{◌≡◌, ℕ, suc, ◌+◌, ◌-◌, ◌*◌, ◌/◌, ◌^◌, ◌≤◌, ◌<◌, ◌⊎◌, inl, inr, Bool, true, false, cond, ◌&&◌, eqb, leb, ltb, min, max, refl, sym, ◌∙◌, ap, subst, List, [], ◌∷◌, length, Option, Some, None, IsSome, All, arith}
 use Rattle.std.specs.List.{AllByRecursion}
 use Rattle.std.proofs.lemmas.Bool.{cases_lt, cases_eq, eq-eqb, ne_eqb, lt-ltb, le-ltb, le-leb, and_from}
 use Rattle.lego_base.specs.declared.perms.Perms.{Perms}
-use Rattle.lego_base.specs.declared.records.Area.{Area}
 use Rattle.lego_base.specs.Space.{perms_of}
 use Rattle.elf_image.specs.declared.image.Segment.{Segment}
 use Rattle.elf_image.specs.Image.{IsBoundedSegment}
-use Rattle.area_list.specs.Runs.{in_range}
 use Rattle.space_rules.specs.Mapped.{union, meets, perms_of_loads, image_areas_of, stack_page, stack_pages, read_write}
 use Rattle.space_rules.proofs.Adding.{each}
 use Rattle.space_rules.proofs.Mapping.{image_maps}
@@ -30,7 +28,7 @@ earlier_is (Some a) (Some b) page e =
 pub load_below : (s : Segment) (from len : ℕ) → false ≡ eqb (length s.bytes) 0 → len ≡ length s.bytes → (s.vaddr + len - 1) / 4096 < from → None ≡ next_page from (with_numbers (s.vaddr / 4096) (pages_in s) [])
 load_below s from len some is low =
     if_false (λ (n : ℕ). None ≡ next_page from (with_numbers (s.vaddr / 4096) n [])) (eqb (length s.bytes) 0) _ _ (sym some)
-      (sym (row_below from (s.vaddr / 4096) ((file_end s - 1) / 4096 + 1 - s.vaddr / 4096) (omega (arith, low, is))))
+    (sym (row_below from (s.vaddr / 4096) ((file_end s - 1) / 4096 + 1 - s.vaddr / 4096) (omega (arith, low, is))))
 
 has_some : (n : ℕ) → false ≡ eqb n 0 → n ≡ 0 → ⊥
 has_some n some none =
@@ -42,9 +40,9 @@ load_next s from len page test is high at =
     let some : length s.bytes ≡ 0 → ⊥ = has_some (length s.bytes) test in
     let count : (file_end s - 1) / 4096 + 1 - s.vaddr / 4096 ≡ suc ((file_end s - 1) / 4096 - s.vaddr / 4096) = omega (arith, some) in
     if_false (λ (n : ℕ). Some page ≡ next_page from (with_numbers (s.vaddr / 4096) n [])) (eqb (length s.bytes) 0) _ _ (ne_eqb (length s.bytes) 0 some)
-      (ap (λ (n : ℕ). Some n) at
-      ∙ sym (row_next from (s.vaddr / 4096) ((file_end s - 1) / 4096 - s.vaddr / 4096) (omega (arith, high, is, some)))
-      ∙ ap (λ (n : ℕ). next_page from (with_numbers (s.vaddr / 4096) n [])) (sym count))
+    (ap (λ (n : ℕ). Some n) at
+    ∙ sym (row_next from (s.vaddr / 4096) ((file_end s - 1) / 4096 - s.vaddr / 4096) (omega (arith, high, is, some)))
+    ∙ ap (λ (n : ℕ). next_page from (with_numbers (s.vaddr / 4096) n [])) (sym count))
 
 -- the pages of one load
 row_part : (s : Segment) (from page : ℕ) → next_page from (with_numbers (s.vaddr / 4096) (pages_in s) []) ≡ Some page → has_part s page ≡ true
@@ -114,20 +112,10 @@ has_bytes (s ∷ segments) page (inr there) =
     (either (λ (n : ℕ). min (part_start s page) (first_byte segments page) < n) (has_part s page) _ _ (omega (arith, rest)) (omega (arith, rest)))
     (either (λ (n : ℕ). first_byte segments page < n) (has_part s page) _ _ (omega (arith, rest)) rest)
 
--- one load more, before those that were looked at
-pub first_more : (s : Segment) (segments : List Segment) (page start end : ℕ) → start ≡ part_start s page → end ≡ part_end s page → start < end → min (first_byte segments page) start ≡ first_byte (s ∷ segments) page
-first_more s segments page start end first last some =
-    let swap : min (first_byte segments page) start ≡ min (part_start s page) (first_byte segments page) = omega (arith, first) in
-    if_true (λ (n : ℕ). min (first_byte segments page) start ≡ n) (has_part s page) _ _ (lt-ltb (part_start s page) (part_end s page) (omega (arith, first, last, some))) swap
-
+-- a load that has no byte there, before those that were looked at
 pub first_same : (s : Segment) (segments : List Segment) (page start end : ℕ) → start ≡ part_start s page → end ≡ part_end s page → end ≤ start → first_byte segments page ≡ first_byte (s ∷ segments) page
 first_same s segments page start end first last none =
     if_false (λ (n : ℕ). first_byte segments page ≡ n) (has_part s page) _ _ (le-ltb (part_start s page) (part_end s page) (omega (arith, first, last, none))) refl
-
-pub last_more : (s : Segment) (segments : List Segment) (page start end : ℕ) → start ≡ part_start s page → end ≡ part_end s page → start < end → max (last_end segments page) end ≡ last_end (s ∷ segments) page
-last_more s segments page start end first last some =
-    let swap : max (last_end segments page) end ≡ max (part_end s page) (last_end segments page) = omega (arith, last) in
-    if_true (λ (n : ℕ). max (last_end segments page) end ≡ n) (has_part s page) _ _ (lt-ltb (part_start s page) (part_end s page) (omega (arith, first, last, some))) swap
 
 pub last_same : (s : Segment) (segments : List Segment) (page start end : ℕ) → start ≡ part_start s page → end ≡ part_end s page → end ≤ start → last_end segments page ≡ last_end (s ∷ segments) page
 last_same s segments page start end first last none =

@@ -1,5 +1,5 @@
 -- The start stack, page by page.
-use Rattle.std.proofs.Common.{◌≡◌, ℕ, zero, suc, ◌+◌, ◌-◌, ◌%◌, ◌/◌, ◌≤◌, ◌<◌, refl, sym, ◌∙◌, ap, subst, List, [], ◌∷◌, ◌++◌, length, take, drop, append_assoc, append-nil, drop-drop, IsSome, arith}
+use Rattle.std.proofs.Common.{◌≡◌, ℕ, suc, ◌+◌, ◌-◌, ◌%◌, ◌≤◌, ◌<◌, sym, ◌∙◌, ap, subst, List, [], ◌∷◌, ◌++◌, length, take, drop, append_assoc, drop-drop, IsSome, arith}
 use Rattle.lego_base.specs.Space.{perms_of}
 use Rattle.space_rules.specs.Mapped.{stack_page, stack_pages}
 use Rattle.space_rules.specs.Standing.{IsWithinStack}
@@ -59,13 +59,13 @@ module _ {X : Type 0} (held : X → Held) (does stops : X → X → List Effect 
   -- one page more
   pub goes_on : (a b c : X) (done : ℕ) → done < length bytes → Stacking held does a b pid sp bytes done → does b c (code_fill done ∷ []) → Stacking held does a c pid sp bytes (done + room done)
   goes_on a b c done h f code =
-    let d : does b c (fill done ∷ []) = subst (does b c) (code_is done) code in record {
-    effects = f.effects ++ fill done ∷ [];
-    did = laws.both a b c f.effects (fill done ∷ []) f.did d;
-    whole = append_assoc f.effects (fill done ∷ []) (left pid sp bytes (done + room done)) ∙ ap (λ (es : List Effect). f.effects ++ es) (sym (next_left done h)) ∙ f.whole;
-    within = room_is done h;
-    mapped = λ page low high. subst (λ (areas : _). IsSome (perms_of areas page)) (sym (ap (λ (h : Held). (h.space pid).areas) (laws.holds b c (fill done ∷ []) d) ∙ fill_maps_nothing pid _ _ (held b))) (f.mapped page low high);
-  }
+      let d : does b c (fill done ∷ []) = subst (does b c) (code_is done) code in record {
+        effects = f.effects ++ fill done ∷ [];
+        did = laws.both a b c f.effects (fill done ∷ []) f.did d;
+        whole = append_assoc f.effects (fill done ∷ []) (left pid sp bytes (done + room done)) ∙ ap (λ (es : List Effect). f.effects ++ es) (sym (next_left done h)) ∙ f.whole;
+        within = room_is done h;
+        mapped = λ page low high. subst (λ (areas : _). IsSome (perms_of areas page)) (sym (ap (λ (h : Held). (h.space pid).areas) (laws.holds b c (fill done ∷ []) d) ∙ fill_maps_nothing pid _ _ (held b))) (f.mapped page low high);
+      }
 
   -- a stop in a page
   pub stopped : (a b c : X) (done : ℕ) → done < length bytes → Stacking held does a b pid sp bytes done → stops b c (code_fill done ∷ []) → stops a c (cut pid (pages_met sp (length bytes)) sp bytes)

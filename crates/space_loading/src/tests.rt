@@ -164,8 +164,9 @@ fn two_loads_share_a_page_of_the_space(rt: HostRuntime) -> Result<(), Fail> {
     push_load(&mut file, 6, 0xb4, 0x1_0ffe, 4, 0x1000)?;
     file.extend_from_slice(&[0x73, 0, 0, 0, 1, 2, 3, 4])?;
     let image = read_image(alloc, file.as_slice())?;
+    let memory = FlatMemory::new(alloc)?;
     let mut machine = Fresh {
-        memory: FlatMemory::new(alloc)?,
+        memory,
         mapped: false,
     };
     let args = Vec::from_array(alloc, [Bytes::from_slice(alloc, b"f")?])?;

@@ -7,11 +7,13 @@
 
 mod breaks;
 mod dispatch;
+mod laws;
 mod mappings;
 mod pages;
 
 pub use breaks::sys_brk;
 pub use dispatch::space_call;
+pub use laws::what_is_lent_is_there;
 pub use mappings::{sys_mmap, sys_mprotect, sys_munmap};
 
 #[cfg(test)]

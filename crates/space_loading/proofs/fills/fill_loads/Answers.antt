@@ -21,4 +21,4 @@ returns-clause-does g c =
 pub returns-clause-stops : goal.returns-clause-stops
 returns-clause-stops g c =
     (stops_follow g.M.Machine.held g.M.Machine.does g.M.Machine.stops g.met.M.Machine.lawful).did _ _ _
-      (ends g.M.Machine.held g.M.Machine.does g.M.Machine.stops g.met.M.Machine.lawful c.args.pid.0 c.args.segments.now _ _ c.loop-page.from c.loop-page.invariant (sym c.next_page.ensures.next ∙ c.in_default.is))
+    (ends g.M.Machine.held g.M.Machine.does g.M.Machine.stops g.met.M.Machine.lawful c.args.pid.0 c.args.segments.now _ _ c.loop-page.from c.loop-page.invariant (sym c.next_page.ensures.next ∙ c.in_default.is))

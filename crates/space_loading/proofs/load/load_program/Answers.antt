@@ -43,4 +43,4 @@ pub returns-clause-stops : goal.returns-clause-stops
 returns-clause-stops g c =
     let stack = c.as_slice.ensures ∙ c.in_ok-stack.ensures.bytes ∙ ap (stack_bytes c.args.args.now c.args.env.now) c.entry.ensures.value in
     (stops_follow g.M.Machine.held g.M.Machine.does g.M.Machine.stops g.met.M.Machine.lawful).did _ _ _
-      (loaded g.M.Machine.held g.M.Machine.does g.M.Machine.stops g.met.M.Machine.lawful c.args.pid.0 c.args.image.now c.args.args.now c.args.env.now c.in_ok-areas.areas c.segments.result.now c.in_ok-stack.stack.sp c.as_slice.result.now c.in_ok-areas.ensures c.segments.ensures.value c.in_ok-stack.ensures.sp stack _ _ _ _ c.in_ok-map.ensures.does c.in_ok-fill_loads.ensures.does c.in_ok-fill_stack.ensures.does)
+    (loaded g.M.Machine.held g.M.Machine.does g.M.Machine.stops g.met.M.Machine.lawful c.args.pid.0 c.args.image.now c.args.args.now c.args.env.now c.in_ok-areas.areas c.segments.result.now c.in_ok-stack.stack.sp c.as_slice.result.now c.in_ok-areas.ensures c.segments.ensures.value c.in_ok-stack.ensures.sp stack _ _ _ _ c.in_ok-map.ensures.does c.in_ok-fill_loads.ensures.does c.in_ok-fill_stack.ensures.does)

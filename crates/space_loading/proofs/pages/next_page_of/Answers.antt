@@ -1,4 +1,3 @@
-use Rattle.std.proofs.Common.{◌≡◌}
 use Rattle.space_loading.proofs.Parts.{load_below, load_next}
 use Rattle.space_loading.proofs.pages.next_page_of.Goals as goal
 

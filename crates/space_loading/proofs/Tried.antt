@@ -1,0 +1,11 @@
+-- The areas of a process without a space, in a machine with spaces alone.
+use Rattle.std.proofs.Common.{◌≡◌, ℕ, sym, ◌∙◌, List}
+use Rattle.lego_base.specs.declared.records.Area.{Area}
+use Rattle.lego_base.specs.Space.{Space, no_space, with_space}
+use Rattle.linux_model.specs.Effects.{Maps}
+use Rattle.linux_model.specs.Held.{held_after}
+use Rattle.space_loading.specs.Tried.{spaces_alone}
+
+pub maps_bare : (pid : ℕ) (areas : List Area) (old new : ℕ → Space) → old ≡ (λ (pid : ℕ). no_space) → new ≡ with_space old pid (record { areas = areas; byte = λ a. 0 }) → spaces_alone new ≡ held_after (Maps pid areas) (spaces_alone old)
+maps_bare pid areas old new bare created =
+    (λ i. spaces_alone (created i)) ∙ (λ i. spaces_alone (with_space old pid (record { areas = areas; byte = (sym bare i pid).byte })))
