@@ -1,0 +1,5 @@
+pub mod Leaves
+pub mod MovesAre
+pub mod Rising
+pub mod Onward
+pub mod Passing
