@@ -139,9 +139,6 @@ module _ (lost : Option ℕ) (t : Track) (m : Message) (may : MayDeliver t m) (n
             let same = drains o.number.0 none in
             omega (arith, set_, same)
 
-    component : is_issuer m.to ≡ false
-    component = ap is_issuer to
-
     -- a receipt: drains wait on, or are answered
     passes_backed : (s' : Mem) (out : List Message) → MemoryRow lost t k s s' out → IsUp lost k → IsEndOf s'.log s.log → s.id ≡ k → AllByRecursion (WaiterFits (memory_count t.shape) k t.next t.current (healing_move t.healing)) s.drains → Backed s (s', out) → (g : Healing) → t.healing ≡ Some g → Passes t m g.memory.0 (slice_set t.mems k s') t.disk.images out
     passes_backed s' out row up ends id waiters (WaitOn zeros same) g heals = passes_quiet s' out row up (every (λ r e. inr e) out zeros) (λ number none. ap (count_waiting number) same) (end_all (λ (p : Patch). open_patch t.current ≡ Some p) s'.log s.log ends) g heals
@@ -159,7 +156,7 @@ module _ (lost : Option ℕ) (t : Track) (m : Message) (may : MayDeliver t m) (n
     passes_row row up log g heals = by (leaves s m)
       where
         by : (m.body ≡ body.BackedUp) ⊎ Leaves s m (handled s m) → Passes t m g.memory.0 (slice_set t.mems k (handled s m).0) t.disk.images (handled s m).1
-        by (inr left) = passes_quiet (handled s m).0 (handled s m).1 row up left.numbers left.drains (left.log (λ (p : Patch). open_patch t.current ≡ Some p) log) g heals
+        by (inr left) = passes_quiet (handled s m).0 (handled s m).1 row up left.numbers left.drains (left.log (open_patch t.current) log) g heals
         by (inl told) = passes_backed (handled s m).0 (handled s m).1 row up (logs-grow-by-writes s m (λ patch is. no_log patch (sym told ∙ is))) (middle.forms k s at).id (middle.waiting k s at) (subst (λ (what : Body). Backed s (handled_body s m what)) (sym told) (backed s)) g heals
           where
             no_log : (patch : Patch) → body.BackedUp ≡ body.LogWrite patch → ⊥

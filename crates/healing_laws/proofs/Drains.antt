@@ -109,7 +109,15 @@ one_waits P number (w ∷ drains) all = elim (eqb_tells w.op number) [
     by (inl none) e = inl ((λ i. cond (e i) 1 0 + none i))
     by (inr it) e = inr it
 
-module _ (lost : Option ℕ) (t : Track) (c k : ℕ) (s s' : Mem) (m : Message) (out : List Message) (may : MayDeliver t m) (at : slice_get t.mems k ≡ Some s) (c_below : c < memory_count t.shape) (id : s.id ≡ k) (given : Given t k s s' out) (second : secondary_of (memory_count t.shape) c ≡ k → (pid vpn : ℕ) → IsEither (sides_of t) c (Page pid vpn) (second_part t.owners t.disk.images c s (Page pid vpn)))
+none_answered : (number id : ℕ) (drains : List Waiter) → count_waiting number drains ≡ 0 → AllByRecursion (λ (r : Message). (r.op.0 == number) ≡ false) (map (drained id) drains)
+none_answered number id [] zero_ = tt
+none_answered number id (w ∷ drains) zero_ = by (w.op == number) refl zero_ (none_answered number id drains)
+  where
+    by : (b : Bool) → (w.op == number) ≡ b → cond b 1 0 + count_waiting number drains ≡ 0 → (count_waiting number drains ≡ 0 → AllByRecursion (λ (r : Message). (r.op.0 == number) ≡ false) (map (drained id) drains)) → ((w.op == number) ≡ false) × AllByRecursion (λ (r : Message). (r.op.0 == number) ≡ false) (map (drained id) drains)
+    by true e zero_ rest = absurd (omega (arith, zero_))
+    by false e zero_ rest = (e, rest (omega (arith, zero_)))
+
+module _ (t : Track) (c k : ℕ) (s s' : Mem) (m : Message) (out : List Message) (may : MayDeliver t m) (at : slice_get t.mems k ≡ Some s) (c_below : c < memory_count t.shape) (id : s.id ≡ k) (given : Given t k s s' out) (second : secondary_of (memory_count t.shape) c ≡ k → (pid vpn : ℕ) → IsEither (sides_of t) c (Page pid vpn) (second_part t.owners t.disk.images c s (Page pid vpn)))
     (empty : s'.log ≡ []) (none_wait : s'.drains ≡ []) (answers : out ≡ map (drained s.id) s.drains) (waiters : AllByRecursion (WaiterFits (memory_count t.shape) k t.next t.current (healing_move t.healing)) s.drains) where
   abbrev later_mems : List Mem
   later_mems = slice_set t.mems k s'
@@ -145,7 +153,7 @@ module _ (lost : Option ℕ) (t : Track) (c k : ℕ) (s s' : Mem) (m : Message) 
   }
     where
       of_waiter : (w : Waiter) → WaiterFits (memory_count t.shape) k t.next t.current (healing_move t.healing) w → w.op ≡ o.number.0 → o.operation ≡ Heals (memory k) body.Drain
-      of_waiter w waits number = (subst (λ (q : Option Open). WaiterFits (memory_count t.shape) k t.next t.current q w) is waits).of_move number.1
+      of_waiter w waits number = ((subst (λ (q : Option Open). WaiterFits (memory_count t.shape) k t.next t.current q w) is waits).of_move number).1
 
       each : (drains : List Waiter) → AllByRecursion (WaiterFits (memory_count t.shape) k t.next t.current (healing_move t.healing)) drains → AllByRecursion (λ (r : Message). r.op.0 ≡ o.number.0 → r.to ≡ place.Manager → (r.from ≡ fits.to) × MoveGot (in_scene (scene_of t) (slice_set t.mems k s') t.disk.images) c move r.body) (map (drained s.id) drains)
       each [] all = tt
@@ -166,14 +174,6 @@ module _ (lost : Option ℕ) (t : Track) (c k : ℕ) (s s' : Mem) (m : Message) 
           inr (here.did (slice_set t.mems k s') t.disk.images x (now_drained here.here))
       undone (inl zero_) e = inl (was ∙ e)
         where
-          none_of_it : (drains : List Waiter) → count_waiting o.number.0 drains ≡ 0 → AllByRecursion (λ (r : Message). (r.op.0 == o.number.0) ≡ false) (map (drained s.id) drains)
-          none_of_it [] zero_ = tt
-          none_of_it (w ∷ drains) zero_ = by (w.op == o.number.0) refl zero_
-            where
-              by : (b : Bool) → (w.op == o.number.0) ≡ b → cond b 1 0 + count_waiting o.number.0 drains ≡ 0 → ((w.op == o.number.0) ≡ false) × AllByRecursion (λ (r : Message). (r.op.0 == o.number.0) ≡ false) (map (drained s.id) drains)
-              by true e zero_ = absurd (omega (arith, zero_))
-              by false e zero_ = (e, none_of_it drains (omega (arith, zero_)))
-
           drains : count_drains o.number.0 (slice_set t.mems k s') ≡ count_drains o.number.0 t.mems
           drains =
               let set_ = set_drains o.number.0 t.mems k s s' at in
@@ -183,4 +183,4 @@ module _ (lost : Option ℕ) (t : Track) (c k : ℕ) (s s' : Mem) (m : Message) 
           was : is_undone o.number.0 (all_pending t) t.mems ≡ is_undone o.number.0 (left_of t ++ out) (slice_set t.mems k s')
           was =
               (λ i. any_same (is_unheard o.number.0) (all_pending t) (all_pending (taken t)) m (whole t m may) (ap (λ (b : Bool). b && (not (same_place m.to place.Manager) || stops m.body)) none) i || nat_lt 0 (sym drains i))
-              ∙ ap (λ (b : Bool). b || nat_lt 0 (count_drains o.number.0 (slice_set t.mems k s'))) (ap (list_any (is_unheard o.number.0)) (sym (left_all t m may)) ∙ sym (of_first (is_unheard o.number.0) (left_of t) out (ap (list_any (is_unheard o.number.0)) answers ∙ none_unheard o.number.0 (map (drained s.id) s.drains) (none_of_it s.drains zero_))))
+              ∙ ap (λ (b : Bool). b || nat_lt 0 (count_drains o.number.0 (slice_set t.mems k s'))) (ap (list_any (is_unheard o.number.0)) (sym (left_all t m may)) ∙ sym (of_first (is_unheard o.number.0) (left_of t) out (ap (list_any (is_unheard o.number.0)) answers ∙ none_unheard o.number.0 (map (drained s.id) s.drains) (none_answered o.number.0 s.id s.drains zero_))))

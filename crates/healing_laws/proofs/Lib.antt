@@ -3,3 +3,10 @@ pub mod MovesAre
 pub mod Rising
 pub mod Onward
 pub mod Passing
+pub mod OnItsWay
+pub mod Stored
+pub mod Writes
+pub mod Drains
+pub mod Beside
+pub mod BesideStorage
+pub mod BesideIssuer

@@ -44,11 +44,11 @@ IsOwned owners c e = owns owners c e.pid.0 e.region.0 ≡ true
 
 owned_entries : (owners : List HomeEntry) (c : ℕ) (es : List HomeEntry) → AllByRecursion (Found owners) es → AllByRecursion (IsOwned owners c) (owned_by c es)
 owned_entries owners c [] all = tt
-owned_entries owners c (e ∷ es) all = by (e.owner.0 == c) refl
+owned_entries owners c (e ∷ es) all = by (e.owner.0 == c) refl (owned_entries owners c es all.1)
   where
-    by : (b : Bool) → (e.owner.0 == c) ≡ b → AllByRecursion (IsOwned owners c) (cond b (e ∷ owned_by c es) (owned_by c es))
-    by true is = (ap (λ (x : Option HomeEntry). is_owner c (owner_in x)) all.0 ∙ is, owned_entries owners c es all.1)
-    by false is = owned_entries owners c es all.1
+    by : (b : Bool) → (e.owner.0 == c) ≡ b → AllByRecursion (IsOwned owners c) (owned_by c es) → AllByRecursion (IsOwned owners c) (cond b (e ∷ owned_by c es) (owned_by c es))
+    by true is rest = (ap (λ (x : Option HomeEntry). is_owner c (owner_in x)) all.0 ∙ is, rest)
+    by false is rest = rest
 
 back_are : (n c : ℕ) (owners es : List HomeEntry) → AllByRecursion (IsOwned owners c) es → AllByRecursion (MoveIs n c owners) (images_back c es)
 back_are n c owners [] all = tt

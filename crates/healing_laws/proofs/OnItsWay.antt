@@ -1,5 +1,5 @@
 -- The move that is on its way, and that none of its messages changes a block.
-use Rattle.std.proofs.Common.{◌≡◌, ◌⊎◌, ◌==◌, [], ◌∷◌, ◌++◌, ◌∙◌, ℕ, Bool, List, None, Option, Some, ap, false, inl, inr, refl, subst, sym, true}
+use Rattle.std.proofs.Common.{◌≡◌, ◌⊎◌, ◌<◌, ◌==◌, [], ◌∷◌, ◌++◌, ◌∙◌, ℕ, Bool, List, None, Option, Some, ap, false, inl, inr, refl, subst, sym, true}
 use Rattle.std.specs.List.{AllByRecursion}
 use Rattle.lego_base.specs.declared.records.HomeEntry.{HomeEntry}
 use Rattle.lego_base.specs.declared.records.PageImage.{PageImage}
@@ -120,3 +120,15 @@ moves_still lost t goes_on middle b = by t.healing middle.healing
                 first_still : Among x (record { from = o.by; to = fit.to; op = o.number; body = fit.told } ∷ []) → changes_block b x.body ≡ false
                 first_still (inl e) = ap (λ (y : Message). changes_block b y.body) e ∙ told_still (scene_of t).sides (memory_count t.shape) h.memory.0 t.owners move fit.told of fit.hands b
                 first_still (inr e) = absurd e
+
+-- a move's number is positive
+pub move_some : (lost : Option ℕ) (t : Track) (m : Message) → t.stopped ≡ false → Middle lost t → IsOfMove m (healing_move t.healing) → 0 < m.op.0
+move_some lost t m goes_on middle of = by t.healing middle.healing of
+  where
+    by : (h : Option Healing) → HealFits lost t h → IsOfMove m (healing_move h) → 0 < m.op.0
+    by None fits of = absurd of
+    by (Some h) fits of = under h.current refl of
+      where
+        under : (current : Option Open) → h.current ≡ current → IsOfMove m current → 0 < m.op.0
+        under None is of = absurd of
+        under (Some o) is of = subst (λ (n : ℕ). 0 < n) (sym of.0) (on_its_way lost t h.memory.0 h (fits.1 goes_on) o middle is).fits.some

@@ -2,16 +2,27 @@
 use Rattle.std.proofs.Common.{◌≡◌, [], ◌∷◌, ℕ, Bool, List, None, Option, Some, cond, false, refl, true}
 use Rattle.std.specs.List.{AllByRecursion}
 use Rattle.lego_base.specs.declared.ids.FileNo.{FileNo}
-use Rattle.lego_msg.specs.Files.{named}
+use Rattle.lego_base.specs.Files.{File, named}
 use Rattle.lego_msg.specs.State.{Disk}
-use Rattle.lego_msg.specs.Table.{made_name, stored, stored_body}
+
+use Rattle.lego_msg.specs.Files.{file_cut, file_written, is_file_room, is_room, made}
+use Rattle.lego_msg.specs.declared.place.Place.{Place}
+use Rattle.lego_msg.specs.Table.{made_name, says, stored, stored_body, tells, within_blocks}
 use Rattle.lego_msg.specs.declared.body.Body.{Body}
 use Rattle.lego_msg.specs.declared.body.Body.TheVariants.{AreasAre, BackedUp, Backup, BlockCut, BlockGet, BlockIs, BlockPut, CopySpace, Done, Drain, Drained, DropSpace, FileBytes, FileCut, FileFree, FileRead, FileSize, FileWrite, Find, GetAreas, ImageCopy, ImageDrop, ImageFree, Images, Line, LogFull, LogWrite, Meta, NameAll, NameCut, NameGet, NameIs, NameMake, Names, OwnerIs, PullImages, PullMeta, PullPages, PushImages, PushMeta, Read, Refused, ResetImages, SetAreas, SetHome, SizeIs, Unmap, Write, Wrote}
 use Rattle.lego_msg.specs.declared.message.Message.{Message}
+use Rattle.lego_msg.specs.declared.place.Why.TheVariants as why
 
 either_numbers : (m : Message) (b : Bool) (x y : Disk × List Message) → AllByRecursion (λ (r : Message). r.op.0 ≡ m.op.0) x.1 → AllByRecursion (λ (r : Message). r.op.0 ≡ m.op.0) y.1 → AllByRecursion (λ (r : Message). r.op.0 ≡ m.op.0) (cond b x y).1
 either_numbers m true x y one other = one
 either_numbers m false x y one other = other
+
+-- one message with its number
+one_number : (m : Message) → (m.op.0 ≡ m.op.0) × Unit {0}
+one_number m = (refl, tt)
+
+within : (d : Disk) (m : Message) (asker : Place) (files : List File) (told : Body) → AllByRecursion (λ (r : Message). r.op.0 ≡ m.op.0) (within_blocks d m asker files told).1
+within d m asker files told = either_numbers m (is_room d.files files) (tells (record d { files = record d.files { files = files } }) m asker told) (tells d m asker (Refused why.StoreFull)) (one_number m) (one_number m)
 
 numbers_body : (d : Disk) (m : Message) (told : Body) → AllByRecursion (λ (r : Message). r.op.0 ≡ m.op.0) (stored_body d m told).1
 numbers_body d m (Find pid region) = tt
@@ -45,14 +56,14 @@ numbers_body d m (NameMake name) = by (named d.files.names name)
   where
     by : (c : Option FileNo) → AllByRecursion (λ (r : Message). r.op.0 ≡ m.op.0) (made_name c d m name).1
     by (Some file) = (refl, tt)
-    by None = either_numbers m _ _ _ (refl, tt) (refl, tt)
+    by None = either_numbers m (is_file_room d.files) (says (record d { files = made d.files name }) m (NameIs (Some (record { 0 = d.files.next })))) (says d m (Refused why.NoRoom)) (one_number m) (one_number m)
 numbers_body d m (NameCut name) = (refl, tt)
 numbers_body d m NameAll = (refl, tt)
 numbers_body d m (FileFree file) = (refl, tt)
 numbers_body d m (Backup patches) = (refl, tt)
 numbers_body d m (BlockGet file block off len asker) = (refl, tt)
-numbers_body d m (BlockPut file block off bytes asker) = either_numbers m _ _ _ (refl, tt) (refl, tt)
-numbers_body d m (BlockCut file size asker) = either_numbers m _ _ _ (refl, tt) (refl, tt)
+numbers_body d m (BlockPut file block off bytes asker) = within d m asker (file_written d.files file.0 block off bytes) Wrote
+numbers_body d m (BlockCut file size asker) = within d m asker (file_cut d.files file.0 size) Done
 numbers_body d m (OwnerIs owner) = tt
 numbers_body d m (Line perms bytes) = tt
 numbers_body d m (Refused why) = tt
