@@ -93,15 +93,10 @@ module _ (lost : Option ℕ) (t : Track) (m : Message) (may : MayDeliver t m) (n
       })) not_move (calm_moves t may.calm) middle.healing)
     where
       anew : (g : Healing) → t.healing ≡ Some g → (pid vpn : ℕ) → owns t.owners (guarded_by (memory_count t.shape) g.memory.0) pid (vpn / 512) ≡ true → IsEither (sides_of t) (guarded_by (memory_count t.shape) g.memory.0) (Page pid vpn) (page_in t.disk.images pid vpn) → IsEither (sides_of t) (guarded_by (memory_count t.shape) g.memory.0) (Page pid vpn) (page_in d.images pid vpn)
-      anew g heals pid vpn mine was = by (row.bare (guarded_by (memory_count t.shape) g.memory.0) own.0 (lost_at lost t g middle heals ∙ ap (λ (k : ℕ). Some k) (sym own.1)) pid vpn mine) was
+      anew g heals pid vpn mine = row.bare (guarded_by (memory_count t.shape) g.memory.0) own.0 (lost_at lost t g middle heals ∙ ap (λ (k : ℕ). Some k) (sym own.1)) pid vpn mine
         where
           own : (guarded_by (memory_count t.shape) g.memory.0 < memory_count t.shape) × (secondary_of (memory_count t.shape) (guarded_by (memory_count t.shape) g.memory.0) ≡ g.memory.0)
           own = guards-its-own (memory_count t.shape) g.memory.0 middle.machine.two (lost_below lost t g goes_on middle heals)
-
-          by : (page_in d.images pid vpn ≡ page_in t.disk.images pid vpn) ⊎ (page_in d.images pid vpn ≡ (sides_of t).new.page pid vpn) → IsEither (sides_of t) (guarded_by (memory_count t.shape) g.memory.0) (Page pid vpn) (page_in t.disk.images pid vpn) → IsEither (sides_of t) (guarded_by (memory_count t.shape) g.memory.0) (Page pid vpn) (page_in d.images pid vpn)
-          by (inl same) (inl e) = inl (same ∙ e)
-          by (inl same) (inr e) = inr (same ∙ e)
-          by (inr new) was = inr (new ∙ sym (ap (λ (b : Bool). cond b ((sides_of t).new.page pid vpn) None) mine))
 
   -- OF THE OPEN OPERATION, which doesn't write: the secondary's log is empty once it is drained
   images_by_row : (d : Disk) (out : List Message) → FileRow lost t d out → open_patch t.current ≡ None → (g : Healing) → t.healing ≡ Some g → IsDrained (sides_of t) (open_patch t.current) t.mems t.disk.images g.memory.0 → (pid vpn : ℕ) → IsEither (sides_of t) g.memory.0 (Page pid vpn) (cond (owns t.owners g.memory.0 pid (vpn / 512)) (page_in d.images pid vpn) None)

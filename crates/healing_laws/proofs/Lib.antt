@@ -1,6 +1,7 @@
 pub mod Leaves
 pub mod MovesAre
 pub mod Rising
+pub mod Handed
 pub mod Onward
 pub mod Passing
 pub mod OnItsWay
@@ -10,3 +11,8 @@ pub mod Drains
 pub mod Beside
 pub mod BesideStorage
 pub mod BesideIssuer
+pub mod MoveSteps
+pub mod AskRows
+pub mod Asked
+pub mod LostRows
+pub mod StorageMoves

@@ -7,6 +7,11 @@ use Rattle.keyed_list.proofs.Listed.{find-put}
 use Rattle.keyed_list.proofs.Order.{below-trans, same_is, same_self}
 use Rattle.rest_laws.proofs.Opened.{every}
 
+-- the first one that is there
+abbrev pub or_else : {X : Type 0} → Option X → Option X → Option X
+or_else None other = other
+or_else (Some x) other = Some x
+
 module _ {X : Type 0} (key : X → Key) where
   -- the first entry is below all others
   pub below_all : (x : X) (xs : List X) → IsAbove key x xs → Rises key xs → AllByRecursion (λ (y : X). is_below (key x) (key y) ≡ true) xs
@@ -37,15 +42,11 @@ module _ {X : Type 0} (key : X → Key) where
       ∙ ap (λ (b : Bool). cond b (x ∷ ys) (y ∷ put key x ys)) (above_differs (key y) (key x) below.0)
       ∙ ap (λ (zs : List X). y ∷ zs) (put_last x ys below.1)
 
-  abbrev Else : Option X → Option X → Option X
-  Else None other = other
-  Else (Some x) other = Some x
-
   -- entries put one after the other are found first
-  pub find_all : (xs ys : List X) (k : Key) → Rises key xs → find key k (put_all key xs ys) ≡ Else (find key k xs) (find key k ys)
+  pub find_all : (xs ys : List X) (k : Key) → Rises key xs → find key k (put_all key xs ys) ≡ or_else (find key k xs) (find key k ys)
   find_all [] ys k rise = refl
-  find_all (x ∷ xs) ys k rise = find_all xs (put key x ys) k rise.1 ∙ ap (λ (o : Option X). Else (find key k xs) o) (find-put key x ys k) ∙ by (same_key (key x) k) refl
+  find_all (x ∷ xs) ys k rise = find_all xs (put key x ys) k rise.1 ∙ ap (λ (o : Option X). or_else (find key k xs) o) (find-put key x ys k) ∙ by (same_key (key x) k) refl
     where
-      by : (b : Bool) → same_key (key x) k ≡ b → Else (find key k xs) (cond b (Some x) (find key k ys)) ≡ Else (cond b (Some x) (find key k xs)) (find key k ys)
+      by : (b : Bool) → same_key (key x) k ≡ b → or_else (find key k xs) (cond b (Some x) (find key k ys)) ≡ or_else (cond b (Some x) (find key k xs)) (find key k ys)
       by false e = refl
-      by true e = ap (λ (o : Option X). Else o (Some x)) (subst (λ (q : Key). find key q xs ≡ None) (same_is (key x) k e) (none_below (key x) xs (below_all x xs rise.0 rise.1)))
+      by true e = ap (λ (o : Option X). or_else o (Some x)) (subst (λ (q : Key). find key q xs ≡ None) (same_is (key x) k e) (none_below (key x) xs (below_all x xs rise.0 rise.1)))

@@ -20,12 +20,12 @@ use Rattle.lego_msg.specs.declared.operation.Open.{Open}
 use Rattle.lego_msg.specs.declared.place.Place.{Place}
 use Rattle.lego_rest.specs.Answers.{all_pending, answers_to, asks_storage_by, gave_answer, heals_target, is_answer_from, is_storage_true}
 use Rattle.lego_rest.specs.Fits.{BatchFits, HasBatch, LogFits, MemFits, background, batch_message, changes_block, is_background, over, receipt}
-use Rattle.lego_rest.specs.Parts.{Page, is_owner, owns, second_part}
+use Rattle.lego_rest.specs.Parts.{Page, is_owner, owns, second_part, sides_of}
 use Rattle.lego_rest.specs.Pending.{IsPlace, IsUp, MayPend, OfBackground, Returns}
 use Rattle.lego_rest.specs.Rest.{CurrentFits, MemHolds, Middle}
 use Rattle.rest_laws.proofs.Delivered.{answers_at, left_of, of_first}
 use Rattle.rest_laws.proofs.Ended.{get_within}
-use Rattle.rest_laws.proofs.Filed.{FileRow}
+use Rattle.rest_laws.proofs.Filed.{FileRow, stays_either}
 use Rattle.rest_laws.proofs.Lookup.{page-overlaid}
 use Rattle.rest_laws.proofs.Net.{background-taken}
 use Rattle.rest_laws.proofs.Opened.{every}
@@ -259,12 +259,12 @@ module _ (lost : Option ℕ) (t : Track) (m : Message) (k : ℕ) (patches : List
     from = (refl, tt);
     pages = λ j s less up_j at pid vpn. inl (pages_stay j s less up_j at pid vpn);
     pages_told = λ unwritten due. inl (told t.current middle.current due);
-    bare = λ j less is pid vpn mine. inl (page_after pid vpn ∙ (elim (touch_cases (memory_count t.shape) k t.owners pid vpn patches patches_log) [
+    bare = λ j less is pid vpn mine. stays_either (sides_of t) j pid vpn (page_in t.disk.images pid vpn) (page_in after pid vpn) mine (inl (page_after pid vpn ∙ (elim (touch_cases (memory_count t.shape) k t.owners pid vpn patches patches_log) [
       | inl quiet ↦ untouched patches pid vpn (page_in t.disk.images pid vpn) quiet
       | inr its ↦
           let owner : eqb its.0.0 j ≡ true = sym (ap (is_owner j) its.1) ∙ mine in
           absurd (lost_up lost up (is ∙ ap (λ (q : ℕ). Some (secondary_of (memory_count t.shape) q)) (sym (eqb-true its.0.0 j owner)) ∙ ap (λ (q : ℕ). Some q) its.2))
-    ]));
+    ])));
     background = λ j is. background_of j (λ same. lost_up lost up (is ∙ ap (λ (q : ℕ). Some q) (sym same)));
     batches = batch_after;
     blocks = λ j s up_j at. every (λ b fit. record {

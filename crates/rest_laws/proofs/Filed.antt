@@ -15,7 +15,7 @@ use Rattle.lego_msg.specs.declared.place.Place.{Place}
 use Rattle.lego_rest.specs.Answers.{all_pending, answers_to, gave_answer, is_answer_from, is_storage_true, is_writing, second_due}
 use Rattle.lego_rest.specs.Fits.{BatchFits, BlockFits, PagesFit, background}
 use Rattle.lego_rest.specs.Heals.{HealFits}
-use Rattle.lego_rest.specs.Parts.{Areas, Cell, Home, Page, new_share, owns, second_part, sides_of}
+use Rattle.lego_rest.specs.Parts.{Areas, Cell, Home, IsEither, Page, Sides, new_share, owns, second_part, sides_of}
 use Rattle.lego_rest.specs.Pending.{IsUp, MayPend}
 use Rattle.lego_rest.specs.Rest.{CurrentFits, Middle}
 use Rattle.rest_laws.proofs.Delivered.{answers_at, gave_other, gave_then, left_of, some_waits}
@@ -43,9 +43,9 @@ pub record FileRow (lost : Option ℕ) (t : Track) (d : Disk) (out : List Messag
   pub pages_told : is_writing t.current ≡ false → (is_storage_true (left_of t) t.healing t.current && gave_answer place.Storage (left_of t ++ out) t.current) ≡ true →
       ((is_storage_true t.net t.healing t.current && gave_answer place.Storage (all_pending t) t.current) ≡ true)
       ⊎ ((j : ℕ) (x : Mem) → j < memory_count t.shape → IsUp lost (secondary_of (memory_count t.shape) j) → slice_get t.mems (secondary_of (memory_count t.shape) j) ≡ Some x → (pid vpn : ℕ) → second_part t.owners d.images j x (Page pid vpn) ≡ new_share (sides_of t) j (Page pid vpn))
-  -- and so do images of pages whose log is lost
+  -- and images of pages whose log is lost stay old or new
   pub bare : (j : ℕ) → j < memory_count t.shape → lost ≡ Some (secondary_of (memory_count t.shape) j) → (pid vpn : ℕ) → owns t.owners j pid (vpn / 512) ≡ true →
-      (page_in d.images pid vpn ≡ page_in t.disk.images pid vpn) ⊎ (page_in d.images pid vpn ≡ (sides_of t).new.page pid vpn)
+      IsEither (sides_of t) j (Page pid vpn) (page_in t.disk.images pid vpn) → IsEither (sides_of t) j (Page pid vpn) (page_in d.images pid vpn)
   pub background : (j : ℕ) → lost ≡ Some j → background j (left_of t ++ out) ≡ background j (all_pending t)
   pub batches : (m : ℕ) (s : Mem) → IsUp lost m → slice_get t.mems m ≡ Some s → BatchFits (left_of t ++ out) d.images s
   pub blocks : (m : ℕ) (s : Mem) → IsUp lost m → slice_get t.mems m ≡ Some s → AllByRecursion (BlockFits (memory_count t.shape) m d.files (left_of t ++ out)) s.blocks
@@ -53,6 +53,12 @@ pub record FileRow (lost : Option ℕ) (t : Track) (d : Disk) (out : List Messag
   pub told : answers_at place.Storage t.current out ≡ true → d.files ≡ (sides_of t).new.files
   pub images : (pid vpn : ℕ) → owner_of t.owners pid (vpn / 512) ≡ None → page_in d.images pid vpn ≡ None
   pub form : PagesFit d.images
+
+-- an image that stays or becomes the new one stays old or new
+pub stays_either : (b : Sides) (j pid vpn : ℕ) (before after : Option (List ℕ)) → owns b.owners j pid (vpn / 512) ≡ true → (after ≡ before) ⊎ (after ≡ b.new.page pid vpn) → IsEither b j (Page pid vpn) before → IsEither b j (Page pid vpn) after
+stays_either b j pid vpn before after mine (inl same) (inl e) = inl (same ∙ e)
+stays_either b j pid vpn before after mine (inl same) (inr e) = inr (same ∙ e)
+stays_either b j pid vpn before after mine (inr new) was = inr (new ∙ sym (ap (λ (x : Bool). cond x (b.new.page pid vpn) None) mine))
 
 abbrev pub FileGives : Option ℕ → Track → Open → Disk → List Message → Type 0
 FileGives lost t o d out = FileRow lost (record t { current = Some o }) d out

@@ -17,7 +17,7 @@ use Rattle.lego_rest.specs.Fits.{BatchFits, HasBatch, PagesFit, background, batc
 use Rattle.lego_rest.specs.Parts.{Page, new_share, owns, second_part, sides_of}
 use Rattle.lego_rest.specs.Pending.{IsUp, Says}
 use Rattle.rest_laws.proofs.Delivered.{left_of, of_first}
-use Rattle.rest_laws.proofs.Filed.{FileGives}
+use Rattle.rest_laws.proofs.Filed.{FileGives, stays_either}
 use Rattle.rest_laws.proofs.Lookup.{page-overlaid}
 use Rattle.rest_laws.proofs.Opened.{every}
 use Rattle.rest_laws.proofs.Pages.{untouched}
@@ -76,7 +76,7 @@ module _ (lost : Option ℕ) (t : Track) (o : Open) (m : Message) (reaches : Rea
     from = (refl, tt);
     pages = λ j x below up at pid vpn. inr (new j x below up at pid vpn);
     pages_told = λ unwritten due. inr new;
-    bare = bare;
+    bare = λ j less is pid vpn mine. stays_either (sides_of (record t { current = Some o })) j pid vpn (page_in t.disk.images pid vpn) (page_in after pid vpn) mine (bare j less is pid vpn mine);
     background = λ j is. reached_background lost t o m reaches done some j;
     batches = λ j s up at. batch_after j s at (reaches.middle.memories j s up at).batch;
     blocks = λ j s up at. every (λ b fit. record {
