@@ -16,3 +16,5 @@ pub mod AskRows
 pub mod Asked
 pub mod LostRows
 pub mod StorageMoves
+pub mod ManagerMoves
+pub mod MoveDeliveries

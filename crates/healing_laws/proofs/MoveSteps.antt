@@ -92,6 +92,9 @@ module _ (lost : Option ℕ) (t : Track) (m : Message) (may : MayDeliver t m) (m
       let once = the_way.fits.once in
       (omega (arith, one, once), omega (arith, one, once), omega (arith, one, once))
 
+  pub move_alone : (count_number o.number.0 (all_pending (taken t)) ≡ 0) × (length o.answers ≡ 0) × (count_drains o.number.0 t.mems ≡ 0)
+  move_alone = (ap (count_number o.number.0) (sym (left_all t m may)) ∙ alone.0, alone.1, alone.2)
+
   pub none_left : AllByRecursion (λ (r : Message). (r.op.0 == o.number.0) ≡ false) (left_of t)
   none_left = none_counted o.number.0 (left_of t) alone.0
 
