@@ -18,3 +18,4 @@ pub mod LostRows
 pub mod StorageMoves
 pub mod ManagerMoves
 pub mod MoveDeliveries
+pub mod MoveBegins

@@ -71,7 +71,7 @@ asked_still n c owners to what (OfMain who e at) b = ap (changes_block b) e
 asked_still n c owners to what (OfImages pid region e at mine) b = ap (changes_block b) e
 asked_still n c owners to what (OfPages pid region e at mine) b = ap (changes_block b) e
 
-told_still : (w : Sides) (n c : ℕ) (owners : List HomeEntry) (move : Move) (told : Body) → MoveIs n c owners move → HandsOver w c move told → (b : Block) → changes_block b told ≡ false
+pub told_still : (w : Sides) (n c : ℕ) (owners : List HomeEntry) (move : Move) (told : Body) → MoveIs n c owners move → HandsOver w c move told → (b : Block) → changes_block b told ≡ false
 told_still w n c owners (Asks to what) told is hands b = ap (changes_block b) hands ∙ asked_still n c owners to what is b
 told_still w n c owners (HandsMeta to role) told is hands b = ap (changes_block b) hands.1
 told_still w n c owners (HandsImages to pid region) told is hands b = ap (changes_block b) hands.1

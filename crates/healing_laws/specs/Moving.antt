@@ -1,10 +1,18 @@
 -- While a memory is healed: its moves keep the relation.
-use Rattle.std.specs.Prelude.{◌≡◌, ℕ, Option}
+use Rattle.std.specs.Prelude.{◌≡◌, [], ◌∷◌, ℕ, List, None, Option, Some, false, true}
 use Rattle.lego_msg.specs.Deliveries.{MayDeliver, comes, taken}
+use Rattle.lego_msg.specs.Sends.{IsMove, move_begins}
 use Rattle.lego_msg.specs.Track.{Track}
+use Rattle.lego_msg.specs.declared.healing.Healing.{Healing}
+use Rattle.lego_msg.specs.declared.healing.Move.{Move}
 use Rattle.lego_msg.specs.declared.message.Message.{Message}
 use Rattle.lego_rest.specs.Rest.{Middle}
 
 -- EVERY DELIVERY keeps it: also that of a move's message at its component, and of its answer at the manager
 abbrev pub DeliveriesKeep : Type 0
 DeliveriesKeep = (lost : Option ℕ) (t : Track) (m : Message) → MayDeliver t m → Middle lost t → Middle lost (comes (taken t) m m.to)
+
+-- A MOVE BEGINS, once the one before it is complete, and takes that one's answer
+abbrev pub MoveBegins : Type 0
+MoveBegins = (lost : Option ℕ) (t : Track) (h : Healing) (m : Message) → t.healing ≡ Some h → h.current ≡ None → t.owed ≡ [] → t.stopped ≡ false → IsMove t m h None h.moves →
+    Middle lost t → Middle lost (move_begins t m h h.moves)
