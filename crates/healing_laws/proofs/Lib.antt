@@ -19,3 +19,4 @@ pub mod StorageMoves
 pub mod ManagerMoves
 pub mod MoveDeliveries
 pub mod MoveBegins
+pub mod MoveEnds
