@@ -20,3 +20,4 @@ pub mod ManagerMoves
 pub mod MoveDeliveries
 pub mod MoveBegins
 pub mod MoveEnds
+pub mod HealingEnds

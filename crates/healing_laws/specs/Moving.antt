@@ -23,3 +23,8 @@ MoveBegins = (lost : Option ℕ) (t : Track) (h : Healing) (m : Message) → t.h
 abbrev pub MoveEnds : Type 0
 MoveEnds = (lost : Option ℕ) (t : Track) (h : Healing) (o : Open) (move : Move) (moves : List Move) → t.healing ≡ Some h → h.current ≡ Some o → h.moves ≡ move ∷ moves →
     t.owed ≡ [] → t.stopped ≡ false → is_complete t.net o ≡ true → Middle lost t → Middle lost (move_finished t h o h.moves)
+
+-- THE LAST MOVE is complete: the healing ends, nothing is lost any more, and the open operation is sent again
+abbrev pub HealingEnds : Type 0
+HealingEnds = (lost : Option ℕ) (t : Track) (h : Healing) (o : Open) → t.healing ≡ Some h → h.current ≡ Some o → h.moves ≡ [] →
+    t.owed ≡ [] → t.stopped ≡ false → is_complete t.net o ≡ true → Middle lost t → Middle None (move_finished t h o h.moves)
