@@ -21,3 +21,5 @@ pub mod MoveDeliveries
 pub mod MoveBegins
 pub mod MoveEnds
 pub mod HealingEnds
+pub mod Settled
+pub mod EndsBeside

@@ -1,6 +1,6 @@
 -- While a memory is healed: its moves keep the relation.
 use Rattle.std.specs.Prelude.{◌≡◌, [], ◌∷◌, ℕ, List, None, Option, Some, false, true}
-use Rattle.lego_msg.specs.Completions.{move_finished}
+use Rattle.lego_msg.specs.Completions.{finished, move_finished}
 use Rattle.lego_msg.specs.Deliveries.{MayDeliver, comes, taken}
 use Rattle.lego_msg.specs.Sends.{IsMove, move_begins}
 use Rattle.lego_msg.specs.Track.{Track, is_complete}
@@ -28,3 +28,8 @@ MoveEnds = (lost : Option ℕ) (t : Track) (h : Healing) (o : Open) (move : Move
 abbrev pub HealingEnds : Type 0
 HealingEnds = (lost : Option ℕ) (t : Track) (h : Healing) (o : Open) → t.healing ≡ Some h → h.current ≡ Some o → h.moves ≡ [] →
     t.owed ≡ [] → t.stopped ≡ false → is_complete t.net o ≡ true → Middle lost t → Middle None (move_finished t h o h.moves)
+
+-- THE OPEN OPERATION is complete while a memory is healed: then it doesn't ask that memory
+abbrev pub OperationEndsBeside : Type 0
+OperationEndsBeside = (lost : Option ℕ) (t : Track) (h : Healing) (o : Open) → t.healing ≡ Some h → t.current ≡ Some o →
+    t.owed ≡ [] → t.stopped ≡ false → is_complete t.net o ≡ true → Middle lost t → Middle lost (finished t (Some o))
