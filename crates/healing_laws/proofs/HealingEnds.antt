@@ -126,7 +126,7 @@ module _ (t : Track) where
       asked false b e f = cc e
 
 -- a crash that isn't left isn't due
-not_due : (clock : Clock) (e : Option CrashAt) → is_of_turn clock e ≡ false → is_now clock e ≡ false
+pub not_due : (clock : Clock) (e : Option CrashAt) → is_of_turn clock e ≡ false → is_now clock e ≡ false
 not_due clock None none = refl
 not_due clock (Some e) none = ap (λ (b : Bool). b && e.after == clock.since) none
 

@@ -23,3 +23,4 @@ pub mod MoveEnds
 pub mod HealingEnds
 pub mod Settled
 pub mod EndsBeside
+pub mod Events
