@@ -24,3 +24,4 @@ pub mod HealingEnds
 pub mod Settled
 pub mod EndsBeside
 pub mod Events
+pub mod LeadsBack
