@@ -85,12 +85,15 @@ module _ (lost : Option ℕ) (t : Track) (m : Message) (may : MayDeliver t m) (n
       ((g : Healing) → t.healing ≡ Some g → IsDrained (sides_of t) (open_patch t.current) t.mems t.disk.images g.memory.0 → (pid vpn : ℕ) → IsEither (sides_of t) g.memory.0 (Page pid vpn) (cond (owns t.owners g.memory.0 pid (vpn / 512)) (page_in d.images pid vpn) None)) →
       Middle lost (record (taken t) { disk = d; owed = out })
   file_keeps d out row numbers images = filed_keeps lost t d m out may middle row
-      (passing_heals lost t t.mems d m out place.Storage may row.from middle t.healing refl (λ g heals. (refl, record {
-        agree = record { drained = λ was. (was.0, images g heals was); anew = anew g heals };
-        at = λ x was. was;
-        background = row.background g.memory.0 (lost_at lost t g middle heals);
-        move = λ o move x is none of fits. quiet_stays t m may g.memory.0 t.mems d.images out x o move fits.to refl (none_of_it lost t m may not_move middle g heals o is none fits.some out (every (λ r e. inl e) out numbers)) none;
-      })) not_move (calm_moves t may.calm) middle.healing)
+      (passing_heals lost t t.mems d m out place.Storage may row.from middle t.healing refl (λ g heals. (
+        refl,
+        record {
+          agree = record { drained = λ was. (was.0, images g heals was); anew = anew g heals };
+          at = λ x was. was;
+          background = row.background g.memory.0 (lost_at lost t g middle heals);
+          move = λ o move x is none of fits. quiet_stays t m may g.memory.0 t.mems d.images out x o move fits.to refl (none_of_it lost t m may not_move middle g heals o is none fits.some out (every (λ r e. inl e) out numbers)) none;
+        },
+      )) not_move (calm_moves t may.calm) middle.healing)
     where
       anew : (g : Healing) → t.healing ≡ Some g → (pid vpn : ℕ) → owns t.owners (guarded_by (memory_count t.shape) g.memory.0) pid (vpn / 512) ≡ true → IsEither (sides_of t) (guarded_by (memory_count t.shape) g.memory.0) (Page pid vpn) (page_in t.disk.images pid vpn) → IsEither (sides_of t) (guarded_by (memory_count t.shape) g.memory.0) (Page pid vpn) (page_in d.images pid vpn)
       anew g heals pid vpn mine = row.bare (guarded_by (memory_count t.shape) g.memory.0) own.0 (lost_at lost t g middle heals ∙ ap (λ (k : ℕ). Some k) (sym own.1)) pid vpn mine

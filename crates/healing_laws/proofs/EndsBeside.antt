@@ -285,18 +285,18 @@ module _ (lost : Option ℕ) (t : Track) (o : Open) (h : Healing) (goes_on : t.s
   heal_goes = (
     middle.healing.0,
     λ goes.
-    let holds = middle.healing.1 goes in
-    record {
-      stands = holds.stands;
-      between = between_then (sides_of busy) h.memory.0 (patch_of o.operation) t.mems t.disk.images same_lost same_guarded drained_then (all_pending busy) t.next holds.stands.x holds.stands.done h.current h.got holds.stands.ahead holds.between;
-      background = holds.background;
-      pages = λ pid vpn old new_. holds.pages pid vpn (same_lost (Page pid vpn) ∙ old) new_;
-      clear = λ pid vpn asks. cc asks;
-      forgotten = refl;
-      one_done = λ done. refl;
-      no_second = holds.no_second;
-      apart = tt;
-    },
+        let holds = middle.healing.1 goes in
+        record {
+          stands = holds.stands;
+          between = between_then (sides_of busy) h.memory.0 (patch_of o.operation) t.mems t.disk.images same_lost same_guarded drained_then (all_pending busy) t.next holds.stands.x holds.stands.done h.current h.got holds.stands.ahead holds.between;
+          background = holds.background;
+          pages = λ pid vpn old new_. holds.pages pid vpn (same_lost (Page pid vpn) ∙ old) new_;
+          clear = λ pid vpn asks. cc asks;
+          forgotten = refl;
+          one_done = λ done. refl;
+          no_second = holds.no_second;
+          apart = tt;
+        },
   )
 
   ended_keeps : Middle lost ended

@@ -59,9 +59,17 @@ anew_are n c owners [] all = tt
 anew_are n c owners (e ∷ es) all = (OfPages e.pid e.region refl refl all.0, (all.0, anew_are n c owners es all.1))
 
 pub moves_are : (n c : ℕ) (owners : List HomeEntry) → AllByRecursion (Found owners) owners → AllByRecursion (MoveIs n c owners) (moves_of n c owners)
-moves_are n c owners found =
-    (OfLog refl refl, (OfSpare (record { 0 = c }) refl refl, (refl, all_both (MoveIs n c owners) (images_back c (owned_by c owners)) _ (back_are n c owners (owned_by c owners) (owned_entries owners c owners found))
-    (OfMain (record { 0 = guarded_by n c }) refl refl, (refl, anew_are n c owners (owned_by (guarded_by n c) owners) (owned_entries owners (guarded_by n c) owners found))))))
+moves_are n c owners found = (
+  OfLog refl refl,
+  (
+    OfSpare (record { 0 = c }) refl refl,
+    (
+      refl,
+      all_both (MoveIs n c owners) (images_back c (owned_by c owners)) _ (back_are n c owners (owned_by c owners) (owned_entries owners c owners found))
+          (OfMain (record { 0 = guarded_by n c }) refl refl, (refl, anew_are n c owners (owned_by (guarded_by n c) owners) (owned_entries owners (guarded_by n c) owners found))),
+    ),
+  ),
+)
 
 -- WHICH COMES BEFORE IT: what hands on follows what asked for it
 
@@ -96,8 +104,17 @@ linked_anew n c prev [] = tt
 linked_anew n c prev (e ∷ es) = (tt, (refl, linked_anew n c (Some (HandsPages e.pid e.region)) es))
 
 pub moves_linked : (n c : ℕ) (owners : List HomeEntry) → Linked n c None (moves_of n c owners)
-moves_linked n c owners = (tt, (tt, (refl, linked_both n c (Some (HandsMeta (memory c) Main)) (images_back c (owned_by c owners)) _ (linked_back n c (Some (HandsMeta (memory c) Main)) (owned_by c owners))
-    (tt, (refl, linked_anew n c (Some (HandsMeta (memory c) Spare)) (owned_by (guarded_by n c) owners))))))
+moves_linked n c owners = (
+  tt,
+  (
+    tt,
+    (
+      refl,
+      linked_both n c (Some (HandsMeta (memory c) Main)) (images_back c (owned_by c owners)) _ (linked_back n c (Some (HandsMeta (memory c) Main)) (owned_by c owners))
+          (tt, (refl, linked_anew n c (Some (HandsMeta (memory c) Spare)) (owned_by (guarded_by n c) owners))),
+    ),
+  ),
+)
 
 pub linked_at : (n c : ℕ) (prev : Option Move) (done : List Move) (move : Move) (ahead : List Move) → Linked n c prev (done ++ move ∷ ahead) → Follows n c (last_of prev done) move
 linked_at n c prev [] move ahead linked = linked.0

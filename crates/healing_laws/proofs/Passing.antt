@@ -57,11 +57,13 @@ module _ (lost : Option ℕ) (t : Track) (mems : List Mem) (d : Disk) (m : Messa
     goes : (current : Option Open) → healing_move t.healing ≡ current → IsNot current m.op.0 → (x : Mem) (o : Open) (move : Move) → current ≡ Some o → MoveIs (memory_count t.shape) c t.owners move → MoveFits (scene_of t) c (all_pending t) t.next o move → (is_undone o.number.0 (all_pending t) t.mems ≡ false → HasDone (scene_of t) c x move) →
         MoveFits (in_scene (scene_of t) mems d.images) c (left_of t ++ out) t.next o move × (is_undone o.number.0 (left_of t ++ out) mems ≡ false → HasDone (in_scene (scene_of t) mems d.images) c x move)
     goes current now not_it x o move is of fits did =
-        let stays = passes.move o move x (now ∙ is) none of fits in
-        (fits_kept (scene_of t) mems d.images c passes.agree (all_pending t) (left_of t ++ out) t.next o move fits (once stays) (all_both _ (left_of t) out left_heard stays.heard), λ e. elim (stays.undone e) [
-          | inl before ↦ done_kept (scene_of t) mems d.images c passes.agree x move of (did before)
-          | inr now ↦ now
-        ])
+        let stays = passes.move o move x (now ∙ is) none of fits in (
+          fits_kept (scene_of t) mems d.images c passes.agree (all_pending t) (left_of t ++ out) t.next o move fits (once stays) (all_both _ (left_of t) out left_heard stays.heard),
+          λ e. elim (stays.undone e) [
+            | inl before ↦ done_kept (scene_of t) mems d.images c passes.agree x move of (did before)
+            | inr now ↦ now
+          ],
+        )
       where
         none : (m.op.0 == o.number.0) ≡ false
         none = subst (λ (q : Option Open). IsNot q m.op.0) is not_it
@@ -82,33 +84,35 @@ module _ (lost : Option ℕ) (t : Track) (mems : List Mem) (d : Disk) (m : Messa
   passing_heals None heals stays not_it undone fits = fits
   passing_heals (Some h) heals stays not_it undone fits =
       let it = stays h refl in
-      let passes = it.1 in
-      (fits.0, λ goes_on.
-      let holds = fits.1 goes_on in
-      record {
-        stands = record {
-          x = holds.stands.x;
-          at = passes.at holds.stands.x holds.stands.at;
-          done = holds.stands.done;
-          ahead = holds.stands.ahead;
-          all = holds.stands.all;
-          rest = holds.stands.rest;
-          log = holds.stands.log;
-          out = holds.stands.out;
-          drains = holds.stands.drains;
-          blocks = holds.stands.blocks;
-        };
-        between = between_kept (scene_of t) mems d.images h.memory.0 passes.agree (all_pending t) (left_of t ++ out) t.next holds.stands.x holds.stands.x holds.stands.done h.current h.got holds.stands.ahead
-            (done_kept (scene_of t) mems d.images h.memory.0 passes.agree holds.stands.x) (goes h.memory.0 it.0 passes h.current (ap healing_move heals) not_it holds.stands.x)
-            (all_are t lost h.memory.0 middle (holds.stands.done ++ holds.stands.ahead) holds.stands.all) holds.between;
-        background = passes.background ∙ holds.background;
-        pages = holds.pages;
-        clear = λ pid vpn clear mine. passes.agree.anew pid vpn mine (holds.clear pid vpn clear mine);
-        forgotten = back_false (gave_answer (memory h.memory.0) (all_pending t) t.current) (gave_answer (memory h.memory.0) (left_of t ++ out) t.current) (gave_other t m may p out from t.current (memory h.memory.0) it.0) holds.forgotten;
-        one_done = λ done. let both : true ≡ false = sym done ∙ sym (done_same t.net (left_of t) m (split t m may) h.current not_it) ∙ undone in cc both;
-        no_second = holds.no_second;
-        apart = holds.apart;
-      })
+      let passes = it.1 in (
+        fits.0,
+        λ goes_on.
+            let holds = fits.1 goes_on in
+            record {
+              stands = record {
+                x = holds.stands.x;
+                at = passes.at holds.stands.x holds.stands.at;
+                done = holds.stands.done;
+                ahead = holds.stands.ahead;
+                all = holds.stands.all;
+                rest = holds.stands.rest;
+                log = holds.stands.log;
+                out = holds.stands.out;
+                drains = holds.stands.drains;
+                blocks = holds.stands.blocks;
+              };
+              between = between_kept (scene_of t) mems d.images h.memory.0 passes.agree (all_pending t) (left_of t ++ out) t.next holds.stands.x holds.stands.x holds.stands.done h.current h.got holds.stands.ahead
+                  (done_kept (scene_of t) mems d.images h.memory.0 passes.agree holds.stands.x) (goes h.memory.0 it.0 passes h.current (ap healing_move heals) not_it holds.stands.x)
+                  (all_are t lost h.memory.0 middle (holds.stands.done ++ holds.stands.ahead) holds.stands.all) holds.between;
+              background = passes.background ∙ holds.background;
+              pages = holds.pages;
+              clear = λ pid vpn clear mine. passes.agree.anew pid vpn mine (holds.clear pid vpn clear mine);
+              forgotten = back_false (gave_answer (memory h.memory.0) (all_pending t) t.current) (gave_answer (memory h.memory.0) (left_of t ++ out) t.current) (gave_other t m may p out from t.current (memory h.memory.0) it.0) holds.forgotten;
+              one_done = λ done. let both : true ≡ false = sym done ∙ sym (done_same t.net (left_of t) m (split t m may) h.current not_it) ∙ undone in cc both;
+              no_second = holds.no_second;
+              apart = holds.apart;
+            },
+      )
 
 -- WHAT ISN'T OF THE MOVE leaves it as it is
 

@@ -4,7 +4,6 @@ use Rattle.std.specs.List.{AllByRecursion}
 use Rattle.lego_base.specs.declared.ids.FileNo.{FileNo}
 use Rattle.lego_base.specs.Files.{File, named}
 use Rattle.lego_msg.specs.State.{Disk}
-
 use Rattle.lego_msg.specs.Files.{file_cut, file_written, is_file_room, is_room, made}
 use Rattle.lego_msg.specs.declared.place.Place.{Place}
 use Rattle.lego_msg.specs.Table.{made_name, says, stored, stored_body, tells, within_blocks}
