@@ -1,41 +1,36 @@
 -- A memory that is up gets the move's message: it answers, or the drain waits there.
-use Rattle.std.proofs.Common.{◌≡◌, ◌⊎◌, ◌+◌, ◌/◌, ◌<◌, ◌==◌, ◌&&◌, ◌||◌, [], ◌∷◌, ◌++◌, ◌∙◌, ℕ, Bool, List, None, Option, Some, ap, append-nil, arith, cond, false, inl, inr, length, ltb, not, refl, slice_get, subst, sym, take, true}
+use Rattle.std.proofs.Common.{◌≡◌, ◌⊎◌, ◌+◌, ◌<◌, ◌==◌, ◌||◌, [], ◌∷◌, ◌++◌, ◌∙◌, ℕ, Bool, List, None, Option, Some, ap, append-nil, arith, cond, false, inl, inr, length, ltb, refl, slice_get, subst, sym, take, true}
 use Rattle.std.proofs.lemmas.Bool.{eq-eqb, eqb-false, eqb-true, lt-ltb, ne_eqb}
 use Rattle.std.proofs.lemmas.Bool.Decides.{eqb_tells}
 use Rattle.std.proofs.lemmas.List.Elements.{filter-append}
 use Rattle.std.specs.List.{AllByRecursion, list_any}
-use Rattle.std.specs.Prelude.{nat_lt, slice_set}
-use Rattle.lego_base.specs.declared.records.PageImage.{PageImage}
+use Rattle.std.specs.Prelude.{slice_set}
 use Rattle.lego_base.specs.declared.records.Patch.{Patch}
-use Rattle.lego_msg.proofs.Senders.{get_set, get_set_other, same_some}
+use Rattle.lego_msg.proofs.Senders.{get_set_other, same_some}
 use Rattle.lego_msg.specs.Deliveries.{MayDeliver, taken}
-use Rattle.lego_msg.specs.Maps.{page_in}
-use Rattle.lego_msg.specs.Places.{cache_of, is_issuer, memory, same_place, secondary_of}
+use Rattle.lego_msg.specs.Places.{is_issuer, memory, same_place, secondary_of}
 use Rattle.lego_msg.specs.State.{Block, Mem, Waiter}
 use Rattle.lego_msg.specs.Table.{answers, backup, batched, drain_row, reply}
 use Rattle.lego_msg.specs.Track.{Track, healing_move, memory_count}
 use Rattle.lego_msg.specs.declared.body.Body.{Body}
 use Rattle.lego_msg.specs.declared.healing.Healing.{Healing}
-use Rattle.lego_msg.specs.declared.healing.Move.{Move}
 use Rattle.lego_msg.specs.declared.message.Message.{Message}
 use Rattle.lego_msg.specs.declared.operation.Open.{Open}
 use Rattle.lego_msg.specs.declared.operation.Operation.TheVariants.{Heals}
-use Rattle.lego_msg.specs.declared.place.Place.{Place}
-use Rattle.lego_rest.specs.Answers.{all_pending, second_due}
+use Rattle.lego_rest.specs.Answers.{all_pending}
 use Rattle.lego_rest.specs.Fits.{BatchFits, HasBatch, MemFits, WaiterFits, WaitsForMove, WaitsForOpen, background, batch_message, changes_block, is_background, receipt}
-use Rattle.lego_rest.specs.Heals.{HasDone, HealFits, IsDrained, IsDrainedFor, MoveGot, count_drains, count_number, count_waiting, is_undone, is_unheard, open_patch, scene_of}
-use Rattle.lego_rest.specs.Parts.{Areas, Cell, Home, IsEither, Page, main_part, owns, second_part, sides_of}
+use Rattle.lego_rest.specs.Heals.{HasDone, IsDrained, MoveGot, count_drains, count_number, count_waiting, is_undone, is_unheard, open_patch, scene_of}
+use Rattle.lego_rest.specs.Parts.{Areas, Cell, Home, IsEither, Page, main_part, second_part, sides_of}
 use Rattle.lego_rest.specs.Pending.{Goes, IsNot, IsPlace, IsUp, MayPend, OfBackground}
 use Rattle.lego_rest.specs.Rest.{CurrentFits, MemHolds, Middle}
 use Rattle.rest_laws.proofs.Bare.{get_below}
 use Rattle.rest_laws.proofs.Delivered.{ClearOf, Given, MemoryRow, answers_at, given_keeps, left_all, left_of, of_first, set_each}
-use Rattle.rest_laws.proofs.Opened.{all_both, every, numbered_is_no_batch}
+use Rattle.rest_laws.proofs.Opened.{all_both, every}
 use Rattle.rest_laws.proofs.Stepping.{batch_stays}
 use Rattle.rest_laws.proofs.Taken.{background_more, batches_same, changes_less}
 use Rattle.rest_laws.proofs.kinds.Logging.{Carries, by_rule, logging, other_background, rule_fits}
 use Rattle.healing_laws.proofs.Beside.{lost_at, up_apart}
-use Rattle.healing_laws.proofs.Leaves.{one_more, set_drains}
-use Rattle.healing_laws.proofs.MovesAre.{MoveIs}
+use Rattle.healing_laws.proofs.Leaves.{set_drains}
 use Rattle.healing_laws.proofs.MoveSteps.{answer_pends, answers_none, heal_holds, heal_step, its_message, none_wait, not_current, the_move, the_way}
 use Rattle.healing_laws.proofs.Onward.{ScenesAgree, done_kept, in_scene}
 use Rattle.healing_laws.proofs.Passing.{none_numbered}

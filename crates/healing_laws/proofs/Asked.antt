@@ -1,5 +1,5 @@
 -- The move's questions to memories that are up: what they answer is old or new.
-use Rattle.std.proofs.Common.{◌≡◌, ◌⊎◌, ◌/◌, ◌<◌, [], ◌∷◌, ◌∙◌, ℕ, List, None, Option, Some, ap, false, refl, slice_get, subst, sym}
+use Rattle.std.proofs.Common.{◌≡◌, ◌/◌, ◌<◌, [], ◌∷◌, ◌∙◌, ℕ, List, None, Option, Some, ap, false, refl, slice_get, subst, sym}
 use Rattle.std.specs.Prelude.{slice_set}
 use Rattle.lego_msg.proofs.Senders.{get_set}
 use Rattle.lego_msg.specs.Deliveries.{MayDeliver, memory_handles, taken}
@@ -7,7 +7,7 @@ use Rattle.lego_msg.specs.Healing.{ask_of}
 use Rattle.lego_msg.specs.Maps.{page_in, pages_of}
 use Rattle.lego_msg.specs.Places.{guarded_by, is_issuer, memory, secondary_of}
 use Rattle.lego_msg.specs.State.{Block, Mem}
-use Rattle.lego_msg.specs.Table.{handled, handled_body}
+use Rattle.lego_msg.specs.Table.{handled_body}
 use Rattle.lego_msg.specs.Track.{Track, memory_count}
 use Rattle.lego_msg.specs.declared.body.Body.{Body}
 use Rattle.lego_msg.specs.declared.healing.Healing.{Healing}
@@ -17,7 +17,6 @@ use Rattle.lego_msg.specs.declared.message.Message.{Message}
 use Rattle.lego_msg.specs.declared.operation.Open.{Open}
 use Rattle.lego_msg.specs.declared.operation.Operation.TheVariants.{Heals}
 use Rattle.lego_msg.specs.declared.place.Place.{Place}
-use Rattle.lego_msg.specs.declared.place.Role.TheVariants.{Main, Spare}
 use Rattle.lego_rest.specs.Heals.{HandsOver, HasDone, MetaFits, MoveGot, scene_of}
 use Rattle.lego_rest.specs.Fits.{changes_block}
 use Rattle.lego_rest.specs.Parts.{Areas, Cell, Home, IsEither, Page, second_part, sides_of}

@@ -1,60 +1,43 @@
 -- While a memory is healed: deliveries of messages that aren't the move's.
-use Rattle.std.proofs.Common.{◌≡◌, ◌⊎◌, ◌+◌, ◌/◌, ◌<◌, ◌==◌, ◌&&◌, ◌||◌, [], ◌∷◌, ◌++◌, ◌∙◌, ℕ, Bool, List, None, Option, Some, ap, append-nil, arith, cond, false, inl, inr, length, map, not, refl, slice_get, subst, sym, take, true}
-use Rattle.std.proofs.lemmas.Bool.{eq-eqb, eqb-false, eqb-true, ne_eqb}
+use Rattle.std.proofs.Common.{◌≡◌, ◌⊎◌, ◌<◌, ◌==◌, ◌||◌, [], ◌∷◌, ◌++◌, ◌∙◌, ℕ, Bool, List, None, Option, Some, ap, arith, false, inl, inr, refl, slice_get, subst, sym, true}
+use Rattle.std.proofs.lemmas.Bool.{eq-eqb, eqb-false, ne_eqb}
 use Rattle.std.proofs.lemmas.Bool.Decides.{eqb_tells}
-use Rattle.std.specs.List.{AllByRecursion, list_any}
+use Rattle.std.specs.List.{AllByRecursion}
 use Rattle.std.specs.Prelude.{slice_set}
-use Rattle.lego_base.specs.declared.records.PageImage.{PageImage}
 use Rattle.lego_base.specs.declared.records.Patch.{Patch}
 use Rattle.lego_msg.proofs.Senders.{get_set_other}
-use Rattle.lego_msg.specs.Deliveries.{MayDeliver, comes, issuer_gets, memory_handles, noted, noted_by_move, noted_with, reaction_of, reacts, stops, taken}
-use Rattle.lego_msg.specs.Healing.{ask_of}
-use Rattle.lego_msg.specs.Maps.{overlaid, page_in}
-use Rattle.lego_msg.specs.Operations.{asks_of, messages_of, patch_of}
-use Rattle.lego_msg.specs.Places.{guarded_by, is_among, is_issuer, memory, same_place, secondary_of}
-use Rattle.lego_msg.specs.State.{Block, Disk, Mem, Waiter}
-use Rattle.lego_msg.specs.Table.{backed_up_row, drained, handled, handled_body, stored, stored_body}
+use Rattle.lego_msg.specs.Deliveries.{MayDeliver, memory_handles, taken}
+use Rattle.lego_msg.specs.Places.{is_among, is_issuer, memory, same_place, secondary_of}
+use Rattle.lego_msg.specs.State.{Mem, Waiter}
+use Rattle.lego_msg.specs.Table.{drained, handled, handled_body}
 use Rattle.lego_msg.specs.Track.{Track, healing_move, is_done, memory_count}
 use Rattle.lego_msg.specs.declared.body.Body.{Body}
 use Rattle.lego_msg.specs.declared.healing.Healing.{Healing}
-use Rattle.lego_msg.specs.declared.healing.Move.{Move}
-use Rattle.lego_msg.specs.declared.healing.Move.TheVariants.{Asks, HandsImages, HandsMeta, HandsPages}
 use Rattle.lego_msg.specs.declared.message.Message.{Message}
 use Rattle.lego_msg.specs.declared.operation.Open.{Open}
-use Rattle.lego_msg.specs.declared.operation.Operation.{Operation}
 use Rattle.lego_msg.specs.declared.operation.Operation.TheVariants.{Heals}
 use Rattle.lego_msg.specs.declared.place.Place.{Place}
 use Rattle.lego_msg.specs.declared.place.Place.TheVariants.{Manager, Memory, Processor, Storage}
-use Rattle.lego_rest.specs.Answers.{all_pending, gave_answer, images_due, is_storage_true, is_writing}
-use Rattle.lego_rest.specs.Fits.{WaiterFits, background, changes_block}
-use Rattle.lego_rest.specs.Heals.{Between, HandsOver, HealFits, HealHolds, IsDrained, IsDrainedFor, MoveFits, MoveGot, Scene, count_drains, count_waiting, open_patch, scene_of}
-use Rattle.lego_rest.specs.Parts.{IsEither, Page, owns, second_part, sides_of}
-use Rattle.lego_rest.specs.Pending.{Among, Goes, IsAway, IsBackground, IsBatch, IsNot, IsOf, IsOfMove, IsPlace, IsUp, Left, MayPend, OfBackground, OfMove, OfOpen, OfOperation, Pends, Returns}
-use Rattle.lego_rest.specs.Rest.{CurrentFits, Middle}
-use Rattle.rest_laws.proofs.Around.{guards-its-own, secondaries-differ}
-use Rattle.rest_laws.proofs.Backing.{backup_gives}
-use Rattle.rest_laws.proofs.Bare.{calm_on, get_below, guarded_is}
-use Rattle.rest_laws.proofs.Delivered.{MemoryRow, given_keeps, left_of, set_each}
-use Rattle.rest_laws.proofs.Dropped.{old-is-dropped}
+use Rattle.lego_rest.specs.Answers.{all_pending}
+use Rattle.lego_rest.specs.Fits.{WaiterFits}
+use Rattle.lego_rest.specs.Heals.{HealFits, IsDrained, count_drains, count_waiting, open_patch}
+use Rattle.lego_rest.specs.Parts.{Page, sides_of}
+use Rattle.lego_rest.specs.Pending.{Goes, IsAway, IsBackground, IsBatch, IsNot, IsOf, IsPlace, IsUp, Left, MayPend, OfBackground, OfMove, OfOperation, Pends, Returns}
+use Rattle.lego_rest.specs.Rest.{Middle}
+use Rattle.rest_laws.proofs.Bare.{calm_on, get_below}
+use Rattle.rest_laws.proofs.Delivered.{MemoryRow, given_keeps, set_each}
 use Rattle.rest_laws.proofs.Emptied.{logs-grow-by-writes}
 use Rattle.rest_laws.proofs.Ended.{get_within}
 use Rattle.rest_laws.proofs.Meeting.{memory_same}
 use Rattle.rest_laws.specs.Logs.{IsEndOf}
-use Rattle.rest_laws.proofs.Filed.{FileRow, filed_keeps}
-use Rattle.rest_laws.proofs.Noted.{answer-is-noted, calm_moves}
+use Rattle.rest_laws.proofs.Noted.{calm_moves}
 use Rattle.rest_laws.proofs.Opened.{every}
-use Rattle.rest_laws.proofs.Reacted.{reaction-is-owed}
 use Rattle.rest_laws.proofs.Receipt.{receipt_gives}
-use Rattle.rest_laws.proofs.Stepping.{shift-keeps}
-use Rattle.rest_laws.proofs.Taken.{all_sent, all_taken, batches_same, changes_less, gave_less, no_batch_to_issuer, not_of_move, split, storage_same, whole}
-use Rattle.rest_laws.proofs.Truth.{and_true, both_true}
+use Rattle.rest_laws.proofs.Taken.{all_taken, not_of_move, whole}
 use Rattle.rest_laws.proofs.kinds.EveryKind.{every_kind_rows}
-use Rattle.rest_laws.specs.Steps.{Moment, Shift}
 use Rattle.healing_laws.proofs.Drains.{Answered, Backed, WaitOn, backed, drained_stays}
 use Rattle.healing_laws.proofs.Leaves.{Leaves, leaves, set_drains}
-use Rattle.healing_laws.proofs.MovesAre.{AskIs, MoveIs, OfImages, OfLog, OfMain, OfPages, OfSpare}
-use Rattle.healing_laws.proofs.OnItsWay.{OnItsWay, moves_still, on_its_way}
-use Rattle.healing_laws.proofs.Onward.{ScenesAgree}
+use Rattle.healing_laws.proofs.OnItsWay.{moves_still, on_its_way}
 use Rattle.healing_laws.proofs.Passing.{Passes, passing_heals, quiet_stays}
 use Rattle.healing_laws.proofs.Writes.{logged}
 use Rattle.lego_msg.specs.declared.body.Body.TheVariants as body

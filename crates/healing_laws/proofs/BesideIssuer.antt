@@ -1,7 +1,6 @@
 -- While a memory is healed: an issuer gets what isn't the move's; and all such deliveries.
-use Rattle.std.proofs.Common.{◌≡◌, ◌+◌, ◌<◌, ◌==◌, ◌&&◌, [], ◌∷◌, ◌++◌, ◌∙◌, ℕ, Bool, List, None, Option, Some, ap, cond, false, inl, refl, subst, sym, true}
+use Rattle.std.proofs.Common.{◌≡◌, ◌+◌, ◌<◌, ◌==◌, ◌&&◌, ◌∷◌, ◌++◌, ◌∙◌, ℕ, Bool, None, Option, Some, ap, cond, false, inl, refl, subst, sym, true}
 use Rattle.std.proofs.lemmas.Bool.{eqb-true}
-use Rattle.std.specs.List.{AllByRecursion}
 use Rattle.lego_msg.specs.Deliveries.{MayDeliver, comes, is_waiting, issuer_gets, noted, noted_by_move, noted_with, reaction_of, reacts, stops, taken}
 use Rattle.lego_msg.specs.Operations.{patch_of}
 use Rattle.lego_msg.specs.Places.{is_issuer, memory}
@@ -14,7 +13,7 @@ use Rattle.lego_msg.specs.declared.place.Place.{Place}
 use Rattle.lego_msg.specs.declared.place.Place.TheVariants.{Manager, Memory, Processor, Storage}
 use Rattle.lego_rest.specs.Answers.{all_pending, gave_answer, images_due, is_storage_true, is_writing}
 use Rattle.lego_rest.specs.Heals.{HealFits}
-use Rattle.lego_rest.specs.Pending.{IsNot, IsOf, IsOfMove, Left, MayPend, OfBackground, OfMove, OfOperation, Pends}
+use Rattle.lego_rest.specs.Pending.{IsNot, IsOf, Left, MayPend, OfBackground, OfMove, OfOperation, Pends}
 use Rattle.lego_rest.specs.Rest.{CurrentFits, Middle}
 use Rattle.rest_laws.proofs.Bare.{calm_on}
 use Rattle.rest_laws.proofs.Delivered.{left_of, some_waits}

@@ -1,5 +1,5 @@
 -- While a memory is healed: storage gets what isn't the move's.
-use Rattle.std.proofs.Common.{◌≡◌, ◌⊎◌, ◌+◌, ◌/◌, ◌<◌, ◌==◌, ◌&&◌, [], ◌∷◌, ◌++◌, ◌∙◌, ℕ, Bool, List, None, Option, Some, ap, arith, cond, eqb, false, inl, inr, length, refl, slice_get, subst, sym, take, true}
+use Rattle.std.proofs.Common.{◌≡◌, ◌⊎◌, ◌/◌, ◌<◌, [], ◌∷◌, ◌∙◌, ℕ, Bool, List, None, Option, Some, ap, arith, cond, eqb, false, inl, inr, length, refl, slice_get, subst, sym, true}
 use Rattle.std.proofs.lemmas.Bool.{eqb-true}
 use Rattle.std.specs.List.{AllByRecursion}
 use Rattle.lego_base.specs.declared.records.PageImage.{PageImage}
@@ -17,13 +17,12 @@ use Rattle.lego_msg.specs.declared.message.Message.{Message}
 use Rattle.lego_msg.specs.declared.operation.Open.{Open}
 use Rattle.lego_rest.specs.Answers.{all_pending}
 use Rattle.lego_rest.specs.Fits.{over}
-use Rattle.lego_rest.specs.Heals.{HealFits, IsDrained, open_patch}
+use Rattle.lego_rest.specs.Heals.{IsDrained, open_patch}
 use Rattle.lego_rest.specs.Parts.{IsEither, Page, is_owner, owns, plain_with, second_part, sides_of}
-use Rattle.lego_rest.specs.Pending.{Goes, IsBackground, IsBatch, IsNot, IsOf, IsUp, Left, MayPend, OfBackground, OfMove, OfOperation, Pends, Returns}
+use Rattle.lego_rest.specs.Pending.{Goes, IsBatch, IsNot, IsOf, IsUp, Left, MayPend, OfBackground, OfMove, OfOperation, Pends, Returns}
 use Rattle.lego_rest.specs.Rest.{Middle}
 use Rattle.rest_laws.proofs.Around.{guards-its-own, secondaries-differ}
 use Rattle.rest_laws.proofs.Backing.{backup_gives, batch, page_after, patches_fit, patches_log, there}
-use Rattle.rest_laws.proofs.Delivered.{left_of}
 use Rattle.rest_laws.proofs.Ended.{get_within}
 use Rattle.rest_laws.proofs.Filed.{FileRow, filed_keeps}
 use Rattle.rest_laws.proofs.Noted.{calm_moves}

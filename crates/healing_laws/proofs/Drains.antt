@@ -19,7 +19,6 @@ use Rattle.lego_msg.specs.declared.healing.Move.{Move}
 use Rattle.lego_msg.specs.declared.healing.Move.TheVariants.{Asks, HandsImages, HandsMeta, HandsPages}
 use Rattle.lego_msg.specs.declared.message.Message.{Message}
 use Rattle.lego_msg.specs.declared.operation.Open.{Open}
-use Rattle.lego_msg.specs.declared.operation.Operation.{Operation}
 use Rattle.lego_msg.specs.declared.operation.Operation.TheVariants.{Heals}
 use Rattle.lego_msg.specs.declared.place.Place.{Place}
 use Rattle.lego_msg.specs.declared.place.Role.TheVariants.{Main, Spare}
@@ -27,7 +26,6 @@ use Rattle.lego_rest.specs.Answers.{all_pending}
 use Rattle.lego_rest.specs.Fits.{WaiterFits}
 use Rattle.lego_rest.specs.Heals.{HandsOver, HasDone, IsDrained, IsDrainedFor, MoveFits, MoveGot, Scene, count_drains, count_number, count_waiting, is_undone, is_unheard, open_patch, scene_of}
 use Rattle.lego_rest.specs.Parts.{IsEither, Page, owns, second_part, sides_of}
-use Rattle.lego_rest.specs.Rest.{Middle}
 use Rattle.rest_laws.proofs.Delivered.{Given, left_all, left_of, of_first}
 use Rattle.rest_laws.proofs.Meeting.{memory_same}
 use Rattle.rest_laws.proofs.Taken.{any_same, whole}

@@ -1,7 +1,7 @@
 -- An operation is complete while a memory is healed that it doesn't ask: neither that memory nor the one that it guards
 -- changes.
-use Rattle.std.proofs.Common.{◌≡◌, ◌⊎◌, ◌+◌, ◌/◌, ◌<◌, ◌==◌, ◌&&◌, ◌||◌, [], ◌∷◌, ◌++◌, ◌∙◌, ℕ, Bool, List, None, Option, Some, ap, append-nil, arith, cond, eqb, false, inl, inr, length, not, refl, slice_get, subst, suc, sym, true}
-use Rattle.std.proofs.lemmas.Bool.{eq-eqb, eqb-false, eqb-true}
+use Rattle.std.proofs.Common.{◌≡◌, ◌⊎◌, ◌+◌, ◌/◌, ◌<◌, ◌==◌, ◌&&◌, ◌||◌, [], ◌∷◌, ◌∙◌, ℕ, Bool, List, None, Option, Some, ap, append-nil, arith, cond, false, inl, inr, length, not, refl, subst, suc, sym, true}
+use Rattle.std.proofs.lemmas.Bool.{eqb-false, eqb-true}
 use Rattle.std.proofs.lemmas.Bool.Decides.{eqb_tells}
 use Rattle.std.proofs.Math.Nat.{mod-lt}
 use Rattle.std.specs.List.{AllByRecursion, list_any}
@@ -10,37 +10,36 @@ use Rattle.lego_base.specs.declared.records.HomeEntry.{HomeEntry}
 use Rattle.lego_base.specs.declared.records.Patch.{Patch}
 use Rattle.lego_msg.specs.Completions.{brought, finished, owners_after}
 use Rattle.lego_msg.specs.Granted.{OpFits}
-use Rattle.lego_msg.specs.Maps.{overlaid, owner_of, page_in}
+use Rattle.lego_msg.specs.Maps.{owner_of, page_in}
 use Rattle.lego_msg.specs.Operations.{has_patch, is_write, patch_of, targets_of}
 use Rattle.lego_msg.specs.Places.{guarded_by, home_of, is_among, memory, same_place, secondary_of}
 use Rattle.lego_msg.specs.Plain.{Plain, effect}
 use Rattle.lego_msg.specs.State.{Mem, Waiter}
-use Rattle.lego_msg.specs.Track.{Track, all_answered, has_answered, healing_move, is_complete, is_done, is_pending, memory_count}
+use Rattle.lego_msg.specs.Track.{Track, all_answered, is_complete, is_pending, memory_count}
 use Rattle.lego_msg.specs.declared.healing.Healing.{Healing}
-use Rattle.lego_msg.specs.declared.healing.Move.{Move}
 use Rattle.lego_msg.specs.declared.message.Message.{Message}
 use Rattle.lego_msg.specs.declared.operation.Open.{Open}
 use Rattle.lego_msg.specs.declared.operation.Operation.{Operation}
 use Rattle.lego_msg.specs.declared.operation.Operation.TheVariants.{AsksAreas, AsksSize, Copies, CutsFile, CutsName, Drains, Drops, Finds, FreesFile, GetsName, Heals, ListsNames, MakesName, Reads, ReadsFile, SetsAreas, SetsHome, Unmaps, Writes, WritesFile}
 use Rattle.lego_msg.specs.declared.place.Place.{Place}
-use Rattle.lego_rest.specs.Answers.{all_pending, asks_storage_by, gave_answer, images_due, is_answer_from, is_storage_asked, is_storage_true, second_due}
+use Rattle.lego_rest.specs.Answers.{all_pending, asks_storage_by, gave_answer, images_due, is_answer_from, is_storage_true, second_due}
 use Rattle.lego_rest.specs.Fits.{LogFits, PlainFits, WaiterFits}
-use Rattle.lego_rest.specs.Heals.{Between, HealFits, HealHolds, IsDrained, open_patch, scene_of}
-use Rattle.lego_rest.specs.Parts.{Areas, Cell, Held, Home, IsEither, Page, main_part, new_share, old_share, owns, second_part, share, sides_of}
-use Rattle.lego_rest.specs.Pending.{IsNot, IsUp, Left, MayPend, OfBackground, OfMove, OfOperation, Pends}
+use Rattle.lego_rest.specs.Heals.{HealFits, IsDrained}
+use Rattle.lego_rest.specs.Parts.{Areas, Cell, Held, Home, IsEither, Page, main_part, owns, second_part, share, sides_of}
+use Rattle.lego_rest.specs.Pending.{IsUp, Left, MayPend, OfBackground, OfMove, OfOperation, Pends}
 use Rattle.lego_rest.specs.Rest.{CurrentFits, IsReady, MemHolds, Middle, SecondHolds}
 use Rattle.rest_laws.proofs.Around.{guards-its-own, secondaries-differ}
 use Rattle.rest_laws.proofs.Changed.{at_main, at_second, same_areas, same_homes, same_patched, same_unmapped}
 use Rattle.rest_laws.proofs.Copying.{same_copied}
 use Rattle.rest_laws.proofs.Dropping.{each_among}
-use Rattle.rest_laws.proofs.Ended.{get_within, target_answered}
+use Rattle.rest_laws.proofs.Ended.{target_answered}
 use Rattle.rest_laws.proofs.Ends.{every-kind-ends}
 use Rattle.rest_laws.proofs.Goes.{called_of}
 use Rattle.rest_laws.proofs.Opened.{every}
 use Rattle.rest_laws.proofs.Truth.{and_true, both_true, not_true}
 use Rattle.rest_laws.proofs.Unchanged.{same_kept}
 use Rattle.rest_laws.specs.Completing.{KindEnds, SameEntries, SamePages, pages_at}
-use Rattle.healing_laws.proofs.Beside.{lost_at, lost_below}
+use Rattle.healing_laws.proofs.Beside.{lost_below}
 use Rattle.healing_laws.proofs.MoveEnds.{none_pending}
 use Rattle.healing_laws.proofs.Settled.{between_then, settled}
 use Rattle.healing_laws.proofs.Writes.{IsWrite, write_is}

@@ -3,12 +3,12 @@ use Rattle.std.proofs.Common.{◌≡◌, ◌==◌, ◌&&◌, ◌||◌, [], ◌�
 use Rattle.std.proofs.lemmas.Bool.{eq-eqb}
 use Rattle.lego_base.specs.declared.ids.OpNo.{OpNo}
 use Rattle.lego_msg.specs.Completions.{MayComplete, completed, completed_beside, done_or, finished, move_finished}
-use Rattle.lego_msg.specs.Crashes.{MayCrash, crashed, is_idle}
+use Rattle.lego_msg.specs.Crashes.{MayCrash, is_idle}
 use Rattle.lego_msg.specs.Legal.{Legal, May}
 use Rattle.lego_msg.specs.Marks.{is_turn_end}
 use Rattle.lego_msg.specs.Run.{after, run}
 use Rattle.lego_msg.specs.Sends.{IsMove, MaySend, sent}
-use Rattle.lego_msg.specs.Track.{Track, healing_move, is_any_done, is_calm, is_complete, is_crash_due, is_crash_left, is_now, is_of_turn, next_crash}
+use Rattle.lego_msg.specs.Track.{Track, healing_move, is_any_done, is_complete, is_crash_due, is_crash_left, next_crash}
 use Rattle.lego_msg.specs.declared.event.Event.{Event}
 use Rattle.lego_msg.specs.declared.event.Event.TheVariants.{Access, Complete, Crash, Deliver, Drop, Fill, Out, Send, Turn}
 use Rattle.lego_msg.specs.declared.healing.Healing.{Healing}

@@ -1,25 +1,22 @@
 -- What is handed over: pages of a region, and owners with areas, as they are taken from one list and put into another.
-use Rattle.std.proofs.Common.{◌≡◌, ◌⊎◌, ◌/◌, ◌==◌, ◌&&◌, [], ◌∷◌, ◌∙◌, ℕ, Bool, List, None, Option, Some, ap, arith, cond, false, inl, inr, length, not, refl, subst, sym, true}
-use Rattle.std.proofs.lemmas.Bool.{eq-eqb, eqb-true, ne_eqb}
+use Rattle.std.proofs.Common.{◌≡◌, ◌/◌, ◌==◌, ◌&&◌, [], ◌∷◌, ◌∙◌, ℕ, Bool, List, None, Option, Some, ap, cond, false, length, not, refl, subst, sym, true}
+use Rattle.std.proofs.lemmas.Bool.{eq-eqb, eqb-true}
 use Rattle.std.specs.List.{AllByRecursion}
-use Rattle.lego_base.specs.Keys.{IsAbove, Key, Rises, find, is_below, is_page_of, key_at, put, put_all, same_key, those, without}
+use Rattle.lego_base.specs.Keys.{Key, Rises, find, is_below, is_page_of, key_at, put, put_all, same_key, those, without}
 use Rattle.lego_base.specs.declared.ids.MemId.{MemId}
 use Rattle.lego_base.specs.declared.ids.Pid.{Pid}
 use Rattle.lego_base.specs.declared.ids.RegionNo.{RegionNo}
 use Rattle.lego_base.specs.declared.records.Area.{Area}
-use Rattle.lego_base.specs.declared.records.HomeEntry.{HomeEntry}
 use Rattle.lego_base.specs.declared.records.PageImage.{PageImage}
 use Rattle.lego_base.specs.declared.records.SpaceAreas.{SpaceAreas}
 use Rattle.keyed_list.proofs.Found.{above_differs}
 use Rattle.keyed_list.proofs.Listed.{Rises-put, Rises-without, find-without}
-use Rattle.keyed_list.proofs.Order.{same_is}
-use Rattle.lego_msg.specs.Form.{ArePages, EachOnce, IsNone}
-use Rattle.lego_msg.specs.Maps.{areas_at, areas_in, areas_key, home_key, image_bytes, owner_in, owner_of, page_in, page_key, pages_of, with_all_areas, with_areas, with_pages}
+use Rattle.lego_msg.specs.Form.{EachOnce, IsNone}
+use Rattle.lego_msg.specs.Maps.{areas_in, areas_key, home_key, image_bytes, owner_in, page_in, page_key, pages_of, with_all_areas, with_areas, with_pages}
 use Rattle.lego_msg.specs.State.{Kept}
-use Rattle.lego_rest.specs.Fits.{KeptFits, ListFits, PagesFit}
+use Rattle.lego_rest.specs.Fits.{ListFits, PagesFit}
 use Rattle.lego_rest.specs.Heals.{MetaFits, PagesHanded, RegionFits}
 use Rattle.lego_rest.specs.Parts.{Areas, Home, IsEither, Page, Sides}
-use Rattle.rest_laws.proofs.Opened.{every}
 use Rattle.rest_laws.proofs.Truth.{both_true}
 use Rattle.rest_laws.proofs.kinds.Cells.{all_put, all_those}
 use Rattle.healing_laws.proofs.Rising.{below_all, find_all, or_else}

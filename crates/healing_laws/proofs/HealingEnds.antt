@@ -12,13 +12,12 @@ use Rattle.lego_base.specs.declared.shape.CrashAt.{CrashAt}
 use Rattle.lego_msg.proofs.Senders.{same_some}
 use Rattle.lego_msg.specs.Completions.{move_finished, sent_again}
 use Rattle.lego_msg.specs.Healing.{images_anew, images_back, moves_of}
-use Rattle.lego_msg.specs.Maps.{home_key, overlaid, owned_by, owner_in, owner_of, page_in}
+use Rattle.lego_msg.specs.Maps.{home_key, overlaid, owned_by, owner_in, page_in}
 use Rattle.lego_msg.specs.Operations.{asks_of, each_from, is_write, messages_of}
-use Rattle.lego_msg.specs.Places.{guarded_by, memory, same_place, secondary_of}
+use Rattle.lego_msg.specs.Places.{guarded_by, memory, secondary_of}
 use Rattle.lego_msg.specs.Plain.{Plain, effect}
 use Rattle.lego_msg.specs.State.{Mem, Waiter}
-use Rattle.lego_msg.specs.Track.{Track, again, healing_move, is_complete, is_crash_due, is_crash_left, is_done, is_now, is_of_turn, memory_count, next_crash}
-use Rattle.lego_msg.specs.declared.body.Body.{Body}
+use Rattle.lego_msg.specs.Track.{Track, healing_move, is_complete, is_crash_left, is_done, is_now, is_of_turn, memory_count, next_crash}
 use Rattle.lego_msg.specs.declared.clock.Clock.{Clock}
 use Rattle.lego_msg.specs.declared.healing.Healing.{Healing}
 use Rattle.lego_msg.specs.declared.healing.Move.{Move}
@@ -26,16 +25,16 @@ use Rattle.lego_msg.specs.declared.message.Message.{Message}
 use Rattle.lego_msg.specs.declared.operation.Open.{Open}
 use Rattle.lego_msg.specs.declared.operation.Operation.{Operation}
 use Rattle.lego_msg.specs.declared.place.Place.{Place}
-use Rattle.lego_rest.specs.Answers.{all_pending, asks_storage_by, gave_answer, images_due, is_storage_asked, is_storage_true, is_writing, second_due}
-use Rattle.lego_rest.specs.Fits.{BatchFits, OpenFits, WaiterFits, background}
-use Rattle.lego_rest.specs.Heals.{HasDone, HealFits, HealHolds, MetaFits, RegionFits, Scene, scene_of}
+use Rattle.lego_rest.specs.Answers.{all_pending, asks_storage_by, gave_answer, images_due, is_storage_true, is_writing, second_due}
+use Rattle.lego_rest.specs.Fits.{WaiterFits, background}
+use Rattle.lego_rest.specs.Heals.{HasDone, MetaFits, RegionFits, Scene, scene_of}
 use Rattle.lego_rest.specs.Parts.{Areas, Cell, Held, Home, IsEither, Page, is_owner, main_part, new_share, old_share, owns, plain_with, second_part, share, sides_of}
 use Rattle.lego_rest.specs.Pending.{FromUp, IsNot, IsOf, IsOfMove, IsUp, Left, MayPend, OfBackground, OfMove, OfOperation, Pends}
 use Rattle.lego_rest.specs.Rest.{CurrentFits, MemHolds, Middle, SecondHolds}
 use Rattle.rest_laws.proofs.Around.{guards-its-own}
 use Rattle.rest_laws.proofs.Bare.{guarded_is}
-use Rattle.rest_laws.proofs.Opened.{all_both, answers_as_before, every, of_open, waits_as_before}
-use Rattle.rest_laws.proofs.Truth.{both_true, not_true}
+use Rattle.rest_laws.proofs.Opened.{all_both, answers_as_before, every, of_open}
+use Rattle.rest_laws.proofs.Truth.{both_true}
 use Rattle.healing_laws.proofs.Beside.{lost_at, lost_below}
 use Rattle.healing_laws.proofs.MoveEnds.{end_holds, end_way, has_done, none_is_pending}
 use Rattle.healing_laws.specs.Moving.{HealingEnds}

@@ -1,6 +1,5 @@
 -- An operation leads from rest back to rest, whatever crashes on the way.
-use Rattle.std.proofs.Common.{◌≡◌, ◌⊎◌, ◌+◌, ◌<◌, ◌≤◌, ◌==◌, [], ◌∷◌, ◌++◌, ◌∙◌, ℕ, Bool, List, None, Option, Some, ap, arith, cond, drop, false, inl, inr, length, refl, slice_get, subst, suc, sym, true}
-use Rattle.lego_base.specs.declared.records.HomeEntry.{HomeEntry}
+use Rattle.std.proofs.Common.{◌≡◌, ◌⊎◌, ◌<◌, ◌≤◌, ◌==◌, [], ◌∷◌, ◌∙◌, ℕ, Bool, List, None, Option, Some, ap, arith, cond, drop, false, inl, inr, length, refl, slice_get, subst, sym, true}
 use Rattle.lego_msg.specs.Completions.{completed, completed_beside, finished, move_finished, owners_after, sent_again}
 use Rattle.lego_msg.specs.Crashes.{forgotten}
 use Rattle.lego_msg.specs.Deliveries.{comes, issuer_gets, memory_handles, noted, noted_by_move, noted_with, reaction_of, reacts, stops, taken}
@@ -8,7 +7,7 @@ use Rattle.lego_msg.specs.Legal.{Legal, May}
 use Rattle.lego_msg.specs.Marks.{Call, Mark, Order, Show}
 use Rattle.lego_msg.specs.Operations.{patch_of}
 use Rattle.lego_msg.specs.Places.{memory}
-use Rattle.lego_msg.specs.Plain.{Plain, effect}
+use Rattle.lego_msg.specs.Plain.{effect}
 use Rattle.lego_msg.specs.Run.{after, run}
 use Rattle.lego_msg.specs.ShownEvents.{IsNext}
 use Rattle.lego_msg.specs.Sends.{MayBegin, MaySend, begins, move_begins, sent}
@@ -25,7 +24,6 @@ use Rattle.lego_msg.specs.declared.operation.Operation.{Operation}
 use Rattle.lego_msg.specs.declared.place.Place.{Place}
 use Rattle.lego_msg.specs.declared.place.Place.TheVariants.{Manager, Memory, Processor, Storage}
 use Rattle.lego_rest.proofs.Resting.{rest-is-middle}
-use Rattle.lego_rest.specs.Rest.{AtRest}
 use Rattle.rest_laws.specs.GoingOn.{BeginsGranted, IsDue, LedBack, owners_with}
 use Rattle.healing_laws.proofs.Events.{every-event-keeps, in_relation, over_rests}
 use Rattle.healing_laws.specs.Running.{GrantedBeside, InRelation, IsGrantedThere, IsOver, LeadsBackThroughCrashes}

@@ -1,7 +1,7 @@
 -- The memory that is healed gets what its moves hand over.
-use Rattle.std.proofs.Common.{◌≡◌, ◌⊎◌, ◌+◌, ◌/◌, ◌<◌, ◌≤◌, ◌==◌, ◌&&◌, ◌||◌, [], ◌∷◌, ◌++◌, ◌∙◌, ℕ, Bool, List, None, Option, Some, ap, arith, cond, false, inl, inr, leb, length, ltb, not, refl, slice_get, subst, sym, true}
+use Rattle.std.proofs.Common.{◌≡◌, ◌+◌, ◌/◌, ◌<◌, ◌==◌, ◌&&◌, ◌||◌, [], ◌∷◌, ◌++◌, ◌∙◌, ℕ, Bool, List, None, Option, Some, ap, arith, cond, false, inl, inr, leb, length, ltb, not, refl, slice_get, subst, sym, true}
 use Rattle.std.proofs.lemmas.Bool.{eq-eqb, eqb-true, leb-true}
-use Rattle.std.specs.List.{AllByRecursion, list_any}
+use Rattle.std.specs.List.{AllByRecursion}
 use Rattle.std.specs.Prelude.{slice_set}
 use Rattle.lego_base.specs.Keys.{is_page_of, key_at}
 use Rattle.lego_base.specs.declared.ids.Pid.{Pid}
@@ -11,8 +11,8 @@ use Rattle.lego_base.specs.declared.records.Patch.{Patch}
 use Rattle.lego_msg.proofs.Senders.{get_set, get_set_other, same_some}
 use Rattle.lego_msg.specs.Deliveries.{MayDeliver, memory_handles, stops, taken}
 use Rattle.lego_msg.specs.Maps.{page_in, with_all_areas, with_pages}
-use Rattle.lego_msg.specs.Places.{cache_of, guarded_by, is_issuer, memory, same_place, secondary_of}
-use Rattle.lego_msg.specs.State.{Block, Kept, Mem, kept, with_kept}
+use Rattle.lego_msg.specs.Places.{guarded_by, is_issuer, memory, same_place, secondary_of}
+use Rattle.lego_msg.specs.State.{Block, Kept, Mem}
 use Rattle.lego_msg.specs.Table.{answers, handled_body, reply}
 use Rattle.lego_msg.specs.Track.{Track, healing_move, memory_count}
 use Rattle.lego_msg.specs.declared.body.Body.{Body}
@@ -22,13 +22,12 @@ use Rattle.lego_msg.specs.declared.healing.Move.TheVariants.{Asks, HandsImages, 
 use Rattle.lego_msg.specs.declared.message.Message.{Message}
 use Rattle.lego_msg.specs.declared.operation.Open.{Open}
 use Rattle.lego_msg.specs.declared.place.Place.{Place}
-use Rattle.lego_msg.specs.declared.place.Role.{Role}
 use Rattle.lego_msg.specs.declared.place.Role.TheVariants.{Main, Spare}
 use Rattle.lego_rest.specs.Answers.{all_pending}
-use Rattle.lego_rest.specs.Fits.{KeptFits, MemFits, WaiterFits, background, changes_block}
-use Rattle.lego_rest.specs.Heals.{HandsOver, HasDone, HealFits, HealHolds, MetaFits, MoveGot, PagesHanded, RegionFits, count_drains, count_number, count_waiting, is_undone, kept_for, scene_of}
+use Rattle.lego_rest.specs.Fits.{MemFits, WaiterFits, background, changes_block}
+use Rattle.lego_rest.specs.Heals.{HandsOver, HasDone, MetaFits, MoveGot, PagesHanded, RegionFits, count_drains, count_number, count_waiting, is_undone, scene_of}
 use Rattle.lego_rest.specs.Parts.{IsEither, Page, new_share, old_share, sides_of}
-use Rattle.lego_rest.specs.Pending.{IsNot, IsPlace, IsUp}
+use Rattle.lego_rest.specs.Pending.{IsPlace, IsUp}
 use Rattle.lego_rest.specs.Rest.{Middle}
 use Rattle.rest_laws.proofs.Around.{secondaries-differ}
 use Rattle.rest_laws.proofs.Bare.{get_below}

@@ -1,7 +1,7 @@
 -- The manager gets the answer to the move that is on its way.
-use Rattle.std.proofs.Common.{◌≡◌, ◌⊎◌, ◌+◌, ◌<◌, ◌==◌, ◌&&◌, ◌||◌, [], ◌∷◌, ◌++◌, ◌∙◌, ℕ, Bool, List, None, Option, Some, ap, arith, cond, false, inl, inr, length, not, refl, subst, suc, sym, true}
+use Rattle.std.proofs.Common.{◌≡◌, ◌+◌, ◌<◌, ◌==◌, ◌&&◌, ◌||◌, [], ◌∷◌, ◌++◌, ◌∙◌, ℕ, Bool, List, None, Option, Some, ap, arith, cond, false, inl, inr, length, not, refl, subst, suc, sym, true}
 use Rattle.std.proofs.lemmas.Bool.{eq-eqb}
-use Rattle.std.specs.List.{AllByRecursion, list_any}
+use Rattle.std.specs.List.{AllByRecursion}
 use Rattle.std.specs.Prelude.{nat_lt}
 use Rattle.lego_base.specs.declared.records.HomeEntry.{HomeEntry}
 use Rattle.lego_msg.specs.Deliveries.{MayDeliver, answered, is_waiting, issuer_gets, noted, noted_by_move, noted_with, stops, taken}
@@ -9,8 +9,8 @@ use Rattle.lego_msg.specs.Healing.{ask_of}
 use Rattle.lego_msg.specs.Operations.{asks_of, messages_of}
 use Rattle.lego_msg.specs.Places.{is_issuer, memory, same_place}
 use Rattle.lego_msg.specs.Plain.{Plain}
-use Rattle.lego_msg.specs.State.{Mem, Waiter}
-use Rattle.lego_msg.specs.Track.{Track, healing_move, is_calm, is_crash_due, is_done, memory_count, taken_out}
+use Rattle.lego_msg.specs.State.{Waiter}
+use Rattle.lego_msg.specs.Track.{Track, healing_move, is_calm, is_crash_due, is_done, memory_count}
 use Rattle.lego_msg.specs.declared.healing.Healing.{Healing}
 use Rattle.lego_msg.specs.declared.healing.Move.{Move}
 use Rattle.lego_msg.specs.declared.healing.Move.TheVariants.{Asks, HandsImages, HandsMeta, HandsPages}
@@ -19,11 +19,11 @@ use Rattle.lego_msg.specs.declared.operation.Open.{Open}
 use Rattle.lego_msg.specs.declared.operation.Operation.{Operation}
 use Rattle.lego_msg.specs.declared.place.Place.{Place}
 use Rattle.lego_rest.specs.Answers.{all_pending, gave_answer, images_due, is_storage_true, is_writing}
-use Rattle.lego_rest.specs.Fits.{WaiterFits, background}
-use Rattle.lego_rest.specs.Heals.{Ahead, Between, HasDone, HealFits, MoveFits, MoveGot, NumbersDiffer, count_drains, count_number, is_undone, is_unheard, scene_of}
-use Rattle.lego_rest.specs.Pending.{Among, IsNot, IsOfMove, Left, MayPend, OfBackground, OfMove, OfOperation, Pends}
+use Rattle.lego_rest.specs.Fits.{WaiterFits}
+use Rattle.lego_rest.specs.Heals.{HealFits, MoveFits, MoveGot, NumbersDiffer, count_drains, count_number, is_undone, is_unheard, scene_of}
+use Rattle.lego_rest.specs.Pending.{Among, IsNot, Left, MayPend, OfBackground, OfMove, OfOperation, Pends}
 use Rattle.lego_rest.specs.Rest.{CurrentFits, Middle}
-use Rattle.rest_laws.proofs.Delivered.{left_of, some_waits}
+use Rattle.rest_laws.proofs.Delivered.{left_of}
 use Rattle.rest_laws.proofs.Opened.{every}
 use Rattle.rest_laws.proofs.Stepping.{shift-keeps}
 use Rattle.rest_laws.proofs.Taken.{all_sent, all_taken, any_same, batches_same, changes_less, done_same, gave_less, split, storage_same, whole}
@@ -32,7 +32,6 @@ use Rattle.rest_laws.specs.Steps.{Moment, Shift}
 use Rattle.healing_laws.proofs.BesideIssuer.{stop_keeps}
 use Rattle.healing_laws.proofs.MovesAre.{AskIs, MoveIs, OfImages, OfLog, OfMain, OfPages, OfSpare}
 use Rattle.healing_laws.proofs.MoveSteps.{heal_holds, it_is_of_move, move_alone, not_current, the_move, the_way}
-use Rattle.healing_laws.proofs.OnItsWay.{OnItsWay}
 use Rattle.lego_msg.specs.declared.place.Place.TheVariants as place
 
 -- a move goes to a component

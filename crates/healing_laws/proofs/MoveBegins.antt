@@ -1,5 +1,5 @@
 -- A move of a healing begins, with what the move before it was answered.
-use Rattle.std.proofs.Common.{◌≡◌, ◌⊎◌, ◌+◌, ◌<◌, ◌≤◌, ◌==◌, ◌&&◌, ◌||◌, [], ◌∷◌, ◌++◌, ◌∙◌, ℕ, Bool, List, None, Option, Some, ap, append-nil, append_assoc, arith, cond, false, inl, inr, length, not, refl, slice_get, subst, suc, sym, true, zero}
+use Rattle.std.proofs.Common.{◌≡◌, ◌+◌, ◌<◌, ◌≤◌, ◌==◌, ◌&&◌, ◌||◌, [], ◌∷◌, ◌++◌, ◌∙◌, ℕ, Bool, List, None, Option, Some, ap, append-nil, arith, cond, false, inl, inr, length, not, refl, slice_get, subst, suc, sym, true}
 use Rattle.std.proofs.lemmas.Bool.{eq-eqb, eqb-false, ne_eqb}
 use Rattle.std.proofs.lemmas.List.Folds.{list_any-append}
 use Rattle.std.specs.List.{AllByRecursion, list_any}
@@ -7,11 +7,10 @@ use Rattle.std.specs.Prelude.{nat_lt}
 use Rattle.lego_base.specs.declared.records.HomeEntry.{HomeEntry}
 use Rattle.lego_msg.specs.Deliveries.{stops}
 use Rattle.lego_msg.specs.Healing.{ask_of, homes_in, lists_in, moves_of, pages_in}
-use Rattle.lego_msg.specs.Operations.{asks_of, patch_of}
+use Rattle.lego_msg.specs.Operations.{patch_of}
 use Rattle.lego_msg.specs.Places.{guarded_by, is_issuer, memory, same_place, secondary_of}
-use Rattle.lego_msg.specs.Plain.{Plain}
 use Rattle.lego_msg.specs.Sends.{IsMove, move_begins, open_move}
-use Rattle.lego_msg.specs.State.{Block, Mem, Waiter}
+use Rattle.lego_msg.specs.State.{Mem, Waiter}
 use Rattle.lego_msg.specs.Track.{Track, has_answered, healing_move, memory_count}
 use Rattle.lego_msg.specs.declared.body.Body.{Body}
 use Rattle.lego_msg.specs.declared.healing.Healing.{Healing}
@@ -24,8 +23,7 @@ use Rattle.lego_msg.specs.declared.place.Place.{Place}
 use Rattle.lego_msg.specs.declared.place.Role.TheVariants.{Main, Spare}
 use Rattle.lego_rest.specs.Answers.{all_pending, answers_to, gave_answer, images_due, is_answer_from, is_storage_true, is_writing}
 use Rattle.lego_rest.specs.Fits.{WaiterFits, background, changes_block}
-use Rattle.lego_rest.specs.Heals.{Ahead, Between, GotLast, GotMeta, GotPages, HandsOver, HasDone, HealFits, HealHolds, MoveFits, MoveGot, NumbersDiffer, Scene, count_drains, count_number, count_waiting, is_undone, is_unheard, kept_for, scene_of}
-use Rattle.lego_rest.specs.Parts.{Sides}
+use Rattle.lego_rest.specs.Heals.{Ahead, Between, GotLast, HandsOver, HasDone, HealFits, HealHolds, MoveFits, MoveGot, NumbersDiffer, Scene, count_drains, count_number, count_waiting, is_undone, is_unheard, scene_of}
 use Rattle.lego_rest.specs.Pending.{IsNot, IsOf, IsOfMove, IsPlace, Left, MayPend, OfBackground, OfMove, OfOperation, Pends}
 use Rattle.lego_rest.specs.Rest.{CurrentFits, IsReady, Middle}
 use Rattle.rest_laws.proofs.Around.{guards-its-own, secondaries-differ}

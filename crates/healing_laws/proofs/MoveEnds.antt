@@ -1,26 +1,21 @@
 -- A move of a healing is complete.
-use Rattle.std.proofs.Common.{◌≡◌, ◌⊎◌, ◌+◌, ◌<◌, ◌==◌, ◌&&◌, ◌||◌, [], ◌∷◌, ◌++◌, ◌∙◌, ℕ, Bool, List, None, Option, Some, ap, append-nil, append_assoc, arith, cond, false, inl, inr, length, not, refl, subst, suc, sym, true}
+use Rattle.std.proofs.Common.{◌≡◌, ◌==◌, ◌||◌, [], ◌∷◌, ◌++◌, ◌∙◌, ℕ, Bool, List, None, Option, Some, ap, append-nil, append_assoc, arith, false, inl, inr, length, not, refl, subst, suc, sym, true}
 use Rattle.std.proofs.Math.Dec.{eqb-suc-zero}
-use Rattle.std.proofs.lemmas.Bool.{eq-eqb, eqb-false}
+use Rattle.std.proofs.lemmas.Bool.{eqb-false}
 use Rattle.std.specs.List.{AllByRecursion, list_any}
 use Rattle.std.specs.Prelude.{nat_lt}
 use Rattle.lego_msg.specs.Completions.{first_answer, move_finished}
-use Rattle.lego_msg.specs.Deliveries.{stops}
-use Rattle.lego_msg.specs.Healing.{moves_of}
-use Rattle.lego_msg.specs.Places.{memory, same_place}
-use Rattle.lego_msg.specs.Plain.{Plain}
 use Rattle.lego_msg.specs.State.{Waiter}
-use Rattle.lego_msg.specs.Track.{Track, all_answered, has_answered, healing_move, is_complete, is_pending, memory_count}
+use Rattle.lego_msg.specs.Track.{Track, all_answered, healing_move, is_complete, is_pending, memory_count}
 use Rattle.lego_msg.specs.declared.body.Body.{Body}
 use Rattle.lego_msg.specs.declared.healing.Healing.{Healing}
 use Rattle.lego_msg.specs.declared.healing.Move.{Move}
 use Rattle.lego_msg.specs.declared.message.Message.{Message}
 use Rattle.lego_msg.specs.declared.operation.Answer.{Answer}
 use Rattle.lego_msg.specs.declared.operation.Open.{Open}
-use Rattle.lego_msg.specs.declared.place.Place.{Place}
-use Rattle.lego_rest.specs.Answers.{all_pending, gave_answer, images_due, is_storage_true, is_writing}
+use Rattle.lego_rest.specs.Answers.{all_pending, images_due}
 use Rattle.lego_rest.specs.Fits.{WaiterFits}
-use Rattle.lego_rest.specs.Heals.{GotLast, HasDone, HealFits, HealHolds, MoveFits, MoveGot, NumbersDiffer, Scene, count_drains, count_number, is_undone, is_unheard, scene_of}
+use Rattle.lego_rest.specs.Heals.{GotLast, HasDone, HealFits, HealHolds, MoveGot, NumbersDiffer, Scene, count_drains, is_unheard, scene_of}
 use Rattle.lego_rest.specs.Pending.{IsOfMove, Left, MayPend, OfBackground, OfMove, OfOperation, Pends}
 use Rattle.lego_rest.specs.Rest.{CurrentFits, IsReady, Middle}
 use Rattle.rest_laws.proofs.Opened.{all_both, every}
@@ -30,7 +25,6 @@ use Rattle.rest_laws.specs.Steps.{Moment, Shift}
 use Rattle.healing_laws.proofs.OnItsWay.{OnItsWay, on_its_way}
 use Rattle.healing_laws.proofs.Passing.{none_unheard}
 use Rattle.healing_laws.specs.Moving.{MoveEnds}
-use Rattle.lego_msg.specs.declared.place.Place.TheVariants as place
 
 -- nothing of a number is pending
 pub none_pending : (number : ℕ) (xs : List Message) → is_pending number xs ≡ false → AllByRecursion (λ (r : Message). (r.op.0 == number) ≡ false) xs

@@ -1,17 +1,14 @@
 -- A component gets the message of the move that is on its way: what is known then, and what must hold after it.
-use Rattle.std.proofs.Common.{◌≡◌, ◌⊎◌, ◌+◌, ◌/◌, ◌<◌, ◌==◌, ◌&&◌, ◌||◌, [], ◌∷◌, ◌++◌, ◌∙◌, ℕ, Bool, List, None, Option, Some, ap, arith, cond, false, inl, inr, length, not, refl, slice_get, subst, sym, true}
-use Rattle.std.proofs.lemmas.Bool.{eq-eqb, eqb-false, eqb-true, ne_eqb}
+use Rattle.std.proofs.Common.{◌≡◌, ◌⊎◌, ◌+◌, ◌==◌, ◌&&◌, ◌||◌, [], ◌∷◌, ◌++◌, ◌∙◌, ℕ, Bool, List, None, Option, Some, ap, arith, cond, false, inl, inr, length, not, refl, slice_get, subst, sym, true}
+use Rattle.std.proofs.lemmas.Bool.{eq-eqb, eqb-false, ne_eqb}
 use Rattle.std.specs.List.{AllByRecursion, list_any}
 use Rattle.std.specs.Prelude.{nat_lt}
-use Rattle.lego_base.specs.declared.records.PageImage.{PageImage}
 use Rattle.lego_msg.specs.Deliveries.{MayDeliver, stops, taken}
 use Rattle.lego_msg.specs.Maps.{page_in}
 use Rattle.lego_msg.specs.Operations.{asks_of, messages_of, patch_of}
-use Rattle.lego_msg.specs.Places.{guarded_by, is_among, is_issuer, memory, same_place}
-use Rattle.lego_msg.specs.Plain.{Plain}
+use Rattle.lego_msg.specs.Places.{is_among, is_issuer, memory, same_place}
 use Rattle.lego_msg.specs.State.{Disk, Mem}
-use Rattle.lego_msg.specs.Track.{Track, all_answered, has_answered, healing_move, is_done, is_pending, memory_count, taken_out}
-use Rattle.lego_msg.specs.declared.body.Body.{Body}
+use Rattle.lego_msg.specs.Track.{Track, all_answered, healing_move, is_done, is_pending, memory_count}
 use Rattle.lego_msg.specs.declared.healing.Healing.{Healing}
 use Rattle.lego_msg.specs.declared.healing.Move.{Move}
 use Rattle.lego_msg.specs.declared.message.Message.{Message}
@@ -21,10 +18,10 @@ use Rattle.lego_msg.specs.declared.operation.Operation.{Operation}
 use Rattle.lego_msg.specs.declared.place.Place.{Place}
 use Rattle.lego_rest.specs.Answers.{all_pending, answers_to, gave_answer, is_answer_from}
 use Rattle.lego_rest.specs.Fits.{background}
-use Rattle.lego_rest.specs.Heals.{Between, HasDone, HealFits, HealHolds, MoveFits, MoveGot, NumbersDiffer, count_drains, count_number, is_undone, is_unheard, scene_of}
-use Rattle.lego_rest.specs.Parts.{IsEither, Page, new_share, old_share, owns, sides_of}
+use Rattle.lego_rest.specs.Heals.{Between, HasDone, HealFits, HealHolds, MoveGot, NumbersDiffer, count_drains, count_number, is_undone, is_unheard, scene_of}
+use Rattle.lego_rest.specs.Parts.{Page, new_share, old_share, sides_of}
 use Rattle.lego_rest.specs.Pending.{Among, IsNot, IsOf, IsOfMove, IsPlace, Left, MayPend, OfBackground, OfMove, OfOperation, Pends}
-use Rattle.lego_rest.specs.Rest.{CurrentFits, Middle}
+use Rattle.lego_rest.specs.Rest.{Middle}
 use Rattle.rest_laws.proofs.Bare.{calm_on}
 use Rattle.rest_laws.proofs.Delivered.{answers_at, gave_then, left_all, left_of, none_of}
 use Rattle.rest_laws.proofs.Opened.{all_both, every}
@@ -33,7 +30,7 @@ use Rattle.rest_laws.specs.Nets.{Split}
 use Rattle.healing_laws.proofs.MovesAre.{MoveIs}
 use Rattle.healing_laws.proofs.OnItsWay.{OnItsWay, on_its_way}
 use Rattle.healing_laws.proofs.Onward.{ScenesAgree, fits_kept, in_scene}
-use Rattle.healing_laws.proofs.Passing.{all_are, none_unheard}
+use Rattle.healing_laws.proofs.Passing.{all_are}
 use Rattle.lego_msg.specs.declared.place.Place.TheVariants as place
 
 -- what has another number than the open operation doesn't answer it

@@ -1,13 +1,13 @@
 -- The moves of a healing: whom each goes to, which region it is of, and which move comes before it.
-use Rattle.std.proofs.Common.{◌≡◌, ◌⊎◌, ◌==◌, [], ◌∷◌, ◌++◌, ◌∙◌, ℕ, Bool, List, None, Option, Some, ap, arith, cond, false, inl, inr, refl, subst, sym, true}
+use Rattle.std.proofs.Common.{◌≡◌, ◌==◌, [], ◌∷◌, ◌++◌, ◌∙◌, ℕ, Bool, List, None, Option, Some, ap, cond, false, refl, true}
 use Rattle.std.specs.List.{AllByRecursion}
-use Rattle.lego_base.specs.Keys.{IsAbove, Rises, find, same_key}
+use Rattle.lego_base.specs.Keys.{find}
 use Rattle.lego_base.specs.declared.ids.MemId.{MemId}
 use Rattle.lego_base.specs.declared.ids.Pid.{Pid}
 use Rattle.lego_base.specs.declared.ids.RegionNo.{RegionNo}
 use Rattle.lego_base.specs.declared.records.HomeEntry.{HomeEntry}
 use Rattle.lego_msg.specs.Healing.{images_anew, images_back, moves_of}
-use Rattle.lego_msg.specs.Maps.{home_key, owned_by, owner_in, owner_of}
+use Rattle.lego_msg.specs.Maps.{home_key, owned_by, owner_in}
 use Rattle.lego_msg.specs.Places.{guarded_by, memory, secondary_of}
 use Rattle.lego_msg.specs.declared.body.Body.{Body}
 use Rattle.lego_msg.specs.declared.healing.Move.{Move}

@@ -1,11 +1,11 @@
 -- The move that is on its way, and that none of its messages changes a block.
-use Rattle.std.proofs.Common.{◌≡◌, ◌⊎◌, ◌<◌, ◌==◌, [], ◌∷◌, ◌++◌, ◌∙◌, ℕ, Bool, List, None, Option, Some, ap, false, inl, inr, refl, subst, sym, true}
+use Rattle.std.proofs.Common.{◌≡◌, ◌<◌, [], ◌∷◌, ◌++◌, ◌∙◌, ℕ, List, None, Option, Some, ap, false, inl, inr, refl, subst, sym}
 use Rattle.std.specs.List.{AllByRecursion}
 use Rattle.lego_base.specs.declared.records.HomeEntry.{HomeEntry}
 use Rattle.lego_base.specs.declared.records.PageImage.{PageImage}
 use Rattle.lego_base.specs.declared.records.SpaceAreas.{SpaceAreas}
 use Rattle.lego_msg.specs.Operations.{asks_of, messages_of}
-use Rattle.lego_msg.specs.State.{Block, Mem}
+use Rattle.lego_msg.specs.State.{Block}
 use Rattle.lego_msg.specs.Track.{Track, healing_move, memory_count}
 use Rattle.lego_msg.specs.declared.body.Body.{Body}
 use Rattle.lego_msg.specs.declared.healing.Healing.{Healing}
@@ -14,9 +14,7 @@ use Rattle.lego_msg.specs.declared.healing.Move.TheVariants.{Asks, HandsImages, 
 use Rattle.lego_msg.specs.declared.message.Message.{Message}
 use Rattle.lego_msg.specs.declared.operation.Open.{Open}
 use Rattle.lego_msg.specs.declared.operation.Operation.{Operation}
-use Rattle.lego_msg.specs.declared.operation.Operation.TheVariants.{Heals}
 use Rattle.lego_msg.specs.declared.place.Place.{Place}
-use Rattle.lego_msg.specs.declared.place.Role.TheVariants.{Main, Spare}
 use Rattle.lego_rest.specs.Answers.{all_pending}
 use Rattle.lego_rest.specs.Fits.{changes_block}
 use Rattle.lego_rest.specs.Heals.{Ahead, Between, HandsOver, HasDone, HealFits, HealHolds, MoveFits, MoveGot, Scene, is_undone, scene_of}

@@ -1,22 +1,20 @@
 -- A healing goes on: what its moves did, got and hand over is so in a later scene, where only logs, images and the lost
 -- memory changed.
-use Rattle.std.proofs.Common.{◌≡◌, ◌⊎◌, ◌+◌, ◌/◌, ◌<◌, ◌==◌, ◌||◌, [], ◌∷◌, ◌++◌, ◌∙◌, ℕ, Bool, List, None, Option, Some, ap, arith, cond, false, length, refl, slice_get, subst, sym, true}
-use Rattle.std.specs.List.{AllByRecursion, list_any}
-use Rattle.lego_base.specs.declared.records.HomeEntry.{HomeEntry}
+use Rattle.std.proofs.Common.{◌≡◌, ◌+◌, ◌/◌, [], ◌∷◌, ◌++◌, ◌∙◌, ℕ, List, None, Option, Some, ap, false, length, refl, true}
+use Rattle.std.specs.List.{AllByRecursion}
 use Rattle.lego_base.specs.declared.records.PageImage.{PageImage}
 use Rattle.lego_msg.specs.Maps.{page_in}
-use Rattle.lego_msg.specs.Places.{guarded_by, secondary_of}
-use Rattle.lego_msg.specs.State.{Mem, kept}
+use Rattle.lego_msg.specs.Places.{guarded_by}
+use Rattle.lego_msg.specs.State.{Mem}
 use Rattle.lego_msg.specs.declared.body.Body.{Body}
 use Rattle.lego_msg.specs.declared.healing.Move.{Move}
 use Rattle.lego_msg.specs.declared.healing.Move.TheVariants.{Asks, HandsImages, HandsMeta, HandsPages}
 use Rattle.lego_msg.specs.declared.message.Message.{Message}
-use Rattle.lego_msg.specs.declared.operation.Answer.{Answer}
 use Rattle.lego_msg.specs.declared.operation.Open.{Open}
 use Rattle.lego_msg.specs.declared.place.Place.{Place}
 use Rattle.lego_msg.specs.declared.place.Role.TheVariants.{Main, Spare}
-use Rattle.lego_rest.specs.Heals.{AskDone, Asking, Between, ForImages, ForLog, ForMeta, ForNothing, ForPages, GotAsked, GotLast, HasDone, HandsOver, IsDrained, MoveFits, MoveGot, RegionFits, Scene, asking, count_drains, count_number, is_undone}
-use Rattle.lego_rest.specs.Parts.{IsEither, Page, Sides, owns}
+use Rattle.lego_rest.specs.Heals.{AskDone, Asking, Between, ForImages, ForLog, ForMeta, ForNothing, ForPages, GotAsked, GotLast, HasDone, IsDrained, MoveFits, MoveGot, Scene, asking, count_drains, count_number, is_undone}
+use Rattle.lego_rest.specs.Parts.{IsEither, Page, owns}
 use Rattle.rest_laws.proofs.Opened.{every}
 use Rattle.healing_laws.proofs.MovesAre.{MoveIs}
 use Rattle.lego_msg.specs.declared.place.Place.TheVariants as place

@@ -3,12 +3,11 @@ use Rattle.std.proofs.Common.{◌≡◌, ◌⊎◌, ◌+◌, ◌==◌, ◌&&◌,
 use Rattle.std.proofs.lemmas.Bool.{eqb-false}
 use Rattle.std.specs.Prelude.{nat_lt}
 use Rattle.std.specs.List.{AllByRecursion, list_any}
-use Rattle.lego_base.specs.declared.records.HomeEntry.{HomeEntry}
 use Rattle.lego_base.specs.declared.records.PageImage.{PageImage}
 use Rattle.lego_msg.specs.Deliveries.{MayDeliver, stops, taken}
 use Rattle.lego_msg.specs.Healing.{moves_of}
 use Rattle.lego_msg.specs.Maps.{home_key}
-use Rattle.lego_msg.specs.Places.{guarded_by, memory, same_place, secondary_of}
+use Rattle.lego_msg.specs.Places.{memory, same_place}
 use Rattle.lego_msg.specs.State.{Disk, Mem}
 use Rattle.lego_msg.specs.Track.{Track, healing_move, is_done, memory_count}
 use Rattle.lego_msg.specs.declared.healing.Healing.{Healing}
@@ -21,9 +20,7 @@ use Rattle.lego_rest.specs.Fits.{background}
 use Rattle.lego_rest.specs.Heals.{HasDone, HealFits, MoveFits, MoveGot, count_drains, count_number, is_undone, is_unheard, scene_of}
 use Rattle.lego_rest.specs.Pending.{IsNot}
 use Rattle.lego_rest.specs.Rest.{Middle}
-use Rattle.rest_laws.proofs.Bare.{calm_on}
 use Rattle.rest_laws.proofs.Delivered.{gave_other, left_all, left_of, of_first}
-use Rattle.rest_laws.proofs.Noted.{calm_moves}
 use Rattle.rest_laws.proofs.Opened.{all_both, every}
 use Rattle.rest_laws.proofs.Taken.{all_taken, any_same, count_both, count_same, done_same, split, whole}
 use Rattle.rest_laws.proofs.Truth.{back_false}

@@ -1,5 +1,5 @@
 -- Lists that rise by their keys: each entry is found, and entries put into no list are that list again.
-use Rattle.std.proofs.Common.{◌≡◌, [], ◌∷◌, ◌++◌, ◌∙◌, ℕ, Bool, List, None, Option, Some, ap, cond, false, refl, subst, sym, true}
+use Rattle.std.proofs.Common.{◌≡◌, [], ◌∷◌, ◌++◌, ◌∙◌, Bool, List, None, Option, Some, ap, cond, false, refl, subst, true}
 use Rattle.std.specs.List.{AllByRecursion}
 use Rattle.lego_base.specs.Keys.{IsAbove, Key, Rises, find, is_below, put, put_all, same_key}
 use Rattle.keyed_list.proofs.Found.{above_differs, below_differs, not_above}

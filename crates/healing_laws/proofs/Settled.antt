@@ -1,21 +1,17 @@
 -- The open operation is complete while a memory is healed: what the moves did and handed over was old or new, and so is new
 -- now, since neither the lost memory nor what it guards changes.
-use Rattle.std.proofs.Common.{◌≡◌, ◌⊎◌, ◌+◌, ◌/◌, ◌<◌, ◌==◌, ◌&&◌, ◌||◌, [], ◌∷◌, ◌++◌, ◌∙◌, ℕ, Bool, List, None, Option, Some, ap, cond, false, inl, inr, length, refl, slice_get, subst, sym, true}
-use Rattle.std.specs.List.{AllByRecursion}
-use Rattle.lego_base.specs.declared.records.HomeEntry.{HomeEntry}
+use Rattle.std.proofs.Common.{◌≡◌, [], ◌∷◌, ◌∙◌, ℕ, List, None, Option, Some, inl, inr}
 use Rattle.lego_base.specs.declared.records.PageImage.{PageImage}
 use Rattle.lego_base.specs.declared.records.Patch.{Patch}
 use Rattle.lego_msg.specs.Places.{guarded_by}
-use Rattle.lego_msg.specs.Plain.{Plain}
 use Rattle.lego_msg.specs.State.{Kept, Mem}
 use Rattle.lego_msg.specs.declared.body.Body.{Body}
 use Rattle.lego_msg.specs.declared.healing.Move.{Move}
 use Rattle.lego_msg.specs.declared.healing.Move.TheVariants.{Asks, HandsImages, HandsMeta, HandsPages}
 use Rattle.lego_msg.specs.declared.message.Message.{Message}
-use Rattle.lego_msg.specs.declared.operation.Answer.{Answer}
 use Rattle.lego_msg.specs.declared.operation.Open.{Open}
 use Rattle.lego_msg.specs.declared.place.Role.TheVariants.{Main, Spare}
-use Rattle.lego_rest.specs.Heals.{AskDone, Asking, Between, ForImages, ForLog, ForMeta, ForNothing, ForPages, GotAsked, GotLast, HandsOver, HasDone, IsDrained, MetaFits, MoveFits, MoveGot, PagesHanded, RegionFits, Scene, asking, is_undone}
+use Rattle.lego_rest.specs.Heals.{AskDone, Asking, Between, ForImages, ForLog, ForMeta, ForNothing, ForPages, GotAsked, GotLast, HandsOver, HasDone, IsDrained, MetaFits, MoveFits, MoveGot, PagesHanded, RegionFits, Scene, asking}
 use Rattle.lego_rest.specs.Parts.{Areas, Cell, Held, Home, IsEither, Page, Sides, share}
 use Rattle.rest_laws.proofs.Opened.{every}
 

@@ -1,5 +1,5 @@
 -- Storage gets the move's message: images of a region are asked for, or become the pages of the memory that c guards.
-use Rattle.std.proofs.Common.{◌≡◌, ◌⊎◌, ◌+◌, ◌/◌, ◌<◌, ◌==◌, ◌&&◌, ◌||◌, [], ◌∷◌, ◌++◌, ◌∙◌, ℕ, Bool, List, None, Option, Some, ap, arith, cond, eqb, false, inl, inr, not, refl, slice_get, subst, sym, take, true}
+use Rattle.std.proofs.Common.{◌≡◌, ◌⊎◌, ◌+◌, ◌/◌, ◌<◌, ◌==◌, ◌&&◌, ◌||◌, [], ◌∷◌, ◌++◌, ◌∙◌, ℕ, Bool, List, None, Option, Some, ap, arith, cond, false, inl, inr, not, refl, slice_get, subst, sym, take, true}
 use Rattle.std.proofs.lemmas.Bool.{eq-eqb, eqb-true}
 use Rattle.std.specs.List.{AllByRecursion, list_any}
 use Rattle.lego_base.specs.Keys.{is_page_of, key_at}
@@ -8,12 +8,11 @@ use Rattle.lego_base.specs.declared.ids.Pid.{Pid}
 use Rattle.lego_base.specs.declared.ids.RegionNo.{RegionNo}
 use Rattle.lego_base.specs.declared.records.HomeEntry.{HomeEntry}
 use Rattle.lego_base.specs.declared.records.PageImage.{PageImage}
-use Rattle.lego_base.specs.declared.records.Patch.{Patch}
 use Rattle.lego_msg.specs.Deliveries.{MayDeliver, stops, taken}
 use Rattle.lego_msg.specs.Healing.{ask_of, moves_of}
 use Rattle.lego_msg.specs.Maps.{overlaid, owner_of, page_in, pages_of, with_pages}
 use Rattle.lego_msg.specs.Places.{guarded_by, is_issuer, memory, same_place, secondary_of}
-use Rattle.lego_msg.specs.State.{Block, Disk, Mem}
+use Rattle.lego_msg.specs.State.{Block, Mem}
 use Rattle.lego_msg.specs.Table.{stored, stored_body}
 use Rattle.lego_msg.specs.Track.{Track, memory_count}
 use Rattle.lego_msg.specs.declared.body.Body.{Body}
@@ -22,10 +21,9 @@ use Rattle.lego_msg.specs.declared.healing.Move.{Move}
 use Rattle.lego_msg.specs.declared.healing.Move.TheVariants.{Asks, HandsImages, HandsMeta, HandsPages}
 use Rattle.lego_msg.specs.declared.message.Message.{Message}
 use Rattle.lego_msg.specs.declared.operation.Open.{Open}
-use Rattle.lego_msg.specs.declared.place.Place.{Place}
 use Rattle.lego_rest.specs.Answers.{all_pending, asks_storage_by, gave_answer, heals_target, is_storage_true}
 use Rattle.lego_rest.specs.Fits.{BatchFits, HasBatch, LogFits, PagesFit, background, batch_message, changes_block, over, receipt}
-use Rattle.lego_rest.specs.Heals.{HandsOver, HasDone, HealFits, IsDrained, MoveGot, PagesHanded, RegionFits, Scene, count_drains, count_number, is_undone, open_patch, scene_of}
+use Rattle.lego_rest.specs.Heals.{HandsOver, HasDone, IsDrained, MoveGot, PagesHanded, RegionFits, Scene, count_drains, count_number, open_patch, scene_of}
 use Rattle.lego_rest.specs.Parts.{IsEither, Page, is_owner, owns, second_part, sides_of}
 use Rattle.lego_rest.specs.Pending.{IsNot, IsUp}
 use Rattle.lego_rest.specs.Rest.{Middle}
@@ -37,8 +35,8 @@ use Rattle.rest_laws.proofs.Opened.{every}
 use Rattle.rest_laws.proofs.Bare.{guarded_is}
 use Rattle.rest_laws.proofs.Pages.{touch_cases, untouched}
 use Rattle.rest_laws.proofs.Taken.{any_same, background_more, batches_same, changes_less, split}
-use Rattle.rest_laws.proofs.Truth.{and_true, both_true, some_none}
-use Rattle.rest_laws.proofs.kinds.Images.{all_front, has_still}
+use Rattle.rest_laws.proofs.Truth.{and_true, both_true}
+use Rattle.rest_laws.proofs.kinds.Images.{all_front}
 use Rattle.healing_laws.proofs.Beside.{lost_at, lost_below, memory_no_storage}
 use Rattle.healing_laws.proofs.Handed.{fit_with, others_with, pages_taken, region_fits}
 use Rattle.healing_laws.proofs.MovesAre.{AskIs, MoveIs, OfImages, OfLog, OfMain, OfPages, OfSpare}

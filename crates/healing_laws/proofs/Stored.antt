@@ -1,5 +1,5 @@
 -- What storage's row of the message table sends has the number of the message.
-use Rattle.std.proofs.Common.{◌≡◌, [], ◌∷◌, ℕ, Bool, List, None, Option, Some, cond, false, refl, true}
+use Rattle.std.proofs.Common.{◌≡◌, Bool, List, None, Option, Some, cond, false, refl, true}
 use Rattle.std.specs.List.{AllByRecursion}
 use Rattle.lego_base.specs.declared.ids.FileNo.{FileNo}
 use Rattle.lego_base.specs.Files.{File, named}

@@ -1,5 +1,5 @@
 -- While a memory is healed: what is delivered beside the moves of its healing keeps the relation.
-use Rattle.std.specs.Prelude.{◌≡◌, Option}
+use Rattle.std.specs.Prelude.{Option}
 use Rattle.std.specs.Prelude.{ℕ}
 use Rattle.lego_msg.specs.Deliveries.{MayDeliver, comes, taken}
 use Rattle.lego_msg.specs.Track.{Track, healing_move}

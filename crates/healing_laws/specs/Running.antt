@@ -2,16 +2,14 @@
 -- legal list.
 use Rattle.std.specs.Prelude.{◌≡◌, [], ◌∷◌, ℕ, List, None, Option, Some, false}
 use Rattle.lego_msg.specs.Legal.{Legal, May}
-use Rattle.lego_msg.specs.Completions.{owners_after}
 use Rattle.lego_msg.specs.Marks.{Mark}
-use Rattle.lego_msg.specs.Plain.{effect}
 use Rattle.lego_msg.specs.Run.{after, run}
 use Rattle.lego_msg.specs.Track.{Track}
 use Rattle.lego_msg.specs.declared.event.Event.{Event}
 use Rattle.lego_msg.specs.declared.event.Event.TheVariants.{Send}
 use Rattle.lego_msg.specs.declared.healing.Healing.{Healing}
 use Rattle.lego_msg.specs.declared.message.Message.{Message}
-use Rattle.lego_msg.specs.Marks.{Call, Mark, Order}
+use Rattle.lego_msg.specs.Marks.{Mark, Order}
 use Rattle.lego_rest.specs.Rest.{AtRest, Middle}
 use Rattle.rest_laws.specs.GoingOn.{BeginsGranted, IsDue, LedBack}
 
