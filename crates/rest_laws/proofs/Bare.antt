@@ -1,5 +1,5 @@
 -- Images whose log is lost: of pages of which no log may have a patch they are old or new all the same.
-use Rattle.std.proofs.Common.{◌≡◌, ◌/◌, ◌<◌, ◌≤◌, ◌&&◌, ◌||◌, ◌∙◌, [], ◌∷◌, ℕ, Bool, List, None, Option, Some, arith, false, length, not, refl, slice_get, suc, subst, sym, true, zero}
+use Rattle.std.proofs.Common.{◌≡◌, ◌/◌, ◌<◌, ◌≤◌, ◌&&◌, ◌∙◌, [], ◌∷◌, ℕ, Bool, List, None, Option, Some, arith, false, length, not, refl, slice_get, suc, subst, sym, true, zero}
 use Rattle.lego_msg.specs.Maps.{page_in}
 use Rattle.lego_msg.specs.Places.{guarded_by, secondary_of}
 use Rattle.lego_msg.specs.Track.{Track, is_any_done, is_calm, is_crash_due, memory_count}

@@ -109,9 +109,6 @@ component_apart k by issuer = go by issuer
 -- WHO HAS ANSWERED once a message is taken and others are sent from one place
 
 module _ (t : Track) (m : Message) (may : MayDeliver t m) where
-  abbrev left_list : List Message
-  left_list = taken_out t.shape.deliveries t.delivered t.net
-
   -- what is pending without what is sent
   pub left_all : left_of t ≡ all_pending (taken t)
   left_all = sym (ap (λ (ms : List Message). left_of t ++ ms) may.owed ∙ append-nil (left_of t))

@@ -1,18 +1,16 @@
 -- Storage gets a message while an operation is open: what its row of the message table must give so that the relation is
 -- kept.
-use Rattle.std.proofs.Common.{◌≡◌, ◌⊎◌, ◌+◌, ◌/◌, ◌<◌, ◌==◌, ◌&&◌, ◌||◌, [], ◌∷◌, ◌++◌, ◌∙◌, ℕ, Bool, List, None, Option, Some, ap, append-nil, cond, false, inl, inr, refl, slice_get, subst, sym, true}
-use Rattle.std.proofs.lemmas.List.Folds.{list_any-append}
+use Rattle.std.proofs.Common.{◌≡◌, ◌⊎◌, ◌+◌, ◌/◌, ◌<◌, ◌&&◌, ◌++◌, ◌∙◌, ℕ, Bool, List, None, Option, Some, ap, append-nil, cond, false, inl, inr, refl, slice_get, subst, sym, true}
 use Rattle.std.specs.List.{AllByRecursion, list_any}
 use Rattle.lego_msg.specs.Deliveries.{MayDeliver, is_waiting, taken}
 use Rattle.lego_msg.specs.Maps.{owner_of, page_in}
-use Rattle.lego_msg.specs.Operations.{is_write, patch_of}
 use Rattle.lego_msg.specs.Places.{memory, same_place, secondary_of}
 use Rattle.lego_msg.specs.State.{Disk, Mem}
-use Rattle.lego_msg.specs.Track.{Track, has_answered, healing_move, memory_count}
+use Rattle.lego_msg.specs.Track.{Track, healing_move, memory_count}
 use Rattle.lego_msg.specs.declared.message.Message.{Message}
 use Rattle.lego_msg.specs.declared.operation.Open.{Open}
 use Rattle.lego_msg.specs.declared.place.Place.{Place}
-use Rattle.lego_rest.specs.Answers.{all_pending, answers_to, gave_answer, is_answer_from, is_storage_true, is_writing, second_due}
+use Rattle.lego_rest.specs.Answers.{all_pending, gave_answer, is_answer_from, is_storage_true, is_writing, second_due}
 use Rattle.lego_rest.specs.Fits.{BatchFits, BlockFits, PagesFit, background}
 use Rattle.lego_rest.specs.Heals.{HealFits}
 use Rattle.lego_rest.specs.Parts.{Areas, Cell, Home, IsEither, Page, Sides, new_share, owns, second_part, sides_of}
@@ -21,7 +19,7 @@ use Rattle.lego_rest.specs.Rest.{CurrentFits, Middle}
 use Rattle.rest_laws.proofs.Delivered.{answers_at, gave_other, gave_then, left_of, some_waits}
 use Rattle.rest_laws.proofs.Opened.{all_both}
 use Rattle.rest_laws.proofs.Stepping.{storing-keeps}
-use Rattle.rest_laws.proofs.Taken.{all_sent, all_taken, any_less, whole}
+use Rattle.rest_laws.proofs.Taken.{all_sent, all_taken, whole}
 use Rattle.rest_laws.specs.Steps.{Moment, Storing}
 use Rattle.lego_msg.specs.declared.place.Place.TheVariants as place
 

@@ -175,13 +175,12 @@ module _ (lost : Option ℕ) (t : Track) (o : Open) (m : Message) (what : Body) 
 
   heal_goes : (h : Option Healing) → IsNot (healing_move h) m.op.0 → is_done t.net (healing_move h) ≡ false → HealFits lost open_track h → HealFits lost owed_track h
   heal_goes None not_it undone fits = fits
-  heal_goes (Some h) not_it undone fits =
-      (
-        fits.0,
-        λ goes_on.
+  heal_goes (Some h) not_it undone fits = (
+    fits.0,
+    λ goes_on.
         let holds = fits.1 goes_on in
-      let without = between_goes open_track m may (scene_of open_track) holds.stands.x h.memory.0 t.next holds.stands.done h.current h.got holds.stands.ahead not_it holds.between in
-      let with_it = between_more (all_pending (taken open_track)) owing (scene_of open_track) holds.stands.x h.memory.0 t.next holds.stands.done h.current h.got holds.stands.ahead not_it without in
+        let without = between_goes open_track m may (scene_of open_track) holds.stands.x h.memory.0 t.next holds.stands.done h.current h.got holds.stands.ahead not_it holds.between in
+        let with_it = between_more (all_pending (taken open_track)) owing (scene_of open_track) holds.stands.x h.memory.0 t.next holds.stands.done h.current h.got holds.stands.ahead not_it without in
         record {
           stands = holds.stands;
           between = subst (λ (ms : List Message). Between (scene_of open_track) h.memory.0 ms t.next holds.stands.x holds.stands.done h.current h.got holds.stands.ahead) (sym more) with_it;
@@ -193,7 +192,7 @@ module _ (lost : Option ℕ) (t : Track) (o : Open) (m : Message) (what : Body) 
           no_second = holds.no_second;
           apart = holds.apart;
         },
-      )
+  )
 
   owed_keeps : Middle lost owed_track
   owed_keeps = shift-keeps lost open_track owed_moment shift middle
