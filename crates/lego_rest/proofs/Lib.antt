@@ -1,2 +1,3 @@
 pub mod Resting
 mod Rows
+mod HealingRows

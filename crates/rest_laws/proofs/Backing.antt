@@ -20,12 +20,12 @@ use Rattle.lego_msg.specs.declared.operation.Open.{Open}
 use Rattle.lego_msg.specs.declared.place.Place.{Place}
 use Rattle.lego_rest.specs.Answers.{all_pending, answers_to, asks_storage_by, gave_answer, heals_target, is_answer_from, is_storage_true}
 use Rattle.lego_rest.specs.Fits.{BatchFits, HasBatch, LogFits, MemFits, background, batch_message, changes_block, is_background, over, receipt}
-use Rattle.lego_rest.specs.Parts.{Page, is_owner, owns, second_part}
+use Rattle.lego_rest.specs.Parts.{Page, is_owner, owns, second_part, sides_of}
 use Rattle.lego_rest.specs.Pending.{IsPlace, IsUp, MayPend, OfBackground, Returns}
-use Rattle.lego_rest.specs.Rest.{MemHolds, Middle}
-use Rattle.rest_laws.proofs.Delivered.{left_of, of_first}
+use Rattle.lego_rest.specs.Rest.{CurrentFits, MemHolds, Middle}
+use Rattle.rest_laws.proofs.Delivered.{answers_at, left_of, of_first}
 use Rattle.rest_laws.proofs.Ended.{get_within}
-use Rattle.rest_laws.proofs.Filed.{FileGives, answers_now}
+use Rattle.rest_laws.proofs.Filed.{FileRow, stays_either}
 use Rattle.rest_laws.proofs.Lookup.{page-overlaid}
 use Rattle.rest_laws.proofs.Net.{background-taken}
 use Rattle.rest_laws.proofs.Opened.{every}
@@ -55,20 +55,20 @@ not_none k net net' m split is none = by (background k split.front) (sym (ap (ba
     by (y ∷ front) e = cc e
 
 -- A BATCH REACHES STORAGE
-module _ (lost : Option ℕ) (t : Track) (o : Open) (m : Message) (k : ℕ) (patches : List Patch) (may : MayDeliver (record t { current = Some o }) m) (middle : Middle lost (record t { current = Some o })) (number : m.op.0 ≡ 0) (up : IsUp lost k) (from : m.from ≡ memory k) (to : m.to ≡ place.Storage) (what : m.body ≡ body.Backup patches) where
-  pends : MayPend lost (memory_count t.shape) t.plain (Some o) (healing_move t.healing) t.next m
-  pends = (all_taken (MayPend lost (memory_count t.shape) t.plain (Some o) (healing_move t.healing) t.next) (all_pending t) (all_pending (taken (record t { current = Some o }))) m (whole (record t { current = Some o }) m may) middle.pending).0
+module _ (lost : Option ℕ) (t : Track) (m : Message) (k : ℕ) (patches : List Patch) (may : MayDeliver t m) (middle : Middle lost t) (number : m.op.0 ≡ 0) (up : IsUp lost k) (from : m.from ≡ memory k) (to : m.to ≡ place.Storage) (what : m.body ≡ body.Backup patches) where
+  pends : MayPend lost (memory_count t.shape) t.plain t.current (healing_move t.healing) t.next m
+  pends = (all_taken (MayPend lost (memory_count t.shape) t.plain t.current (healing_move t.healing) t.next) (all_pending t) (all_pending (taken t)) m (whole t m may) middle.pending).0
 
   below : k < memory_count t.shape
   below = subst (IsPlace (memory_count t.shape)) from pends.from
 
-  there : (x : Mem) × (slice_get t.mems k ≡ Some x)
+  pub there : (x : Mem) × (slice_get t.mems k ≡ Some x)
   there = let count = middle.count in get_within t.mems k (omega (arith, below, count))
 
   abbrev x : Mem
   x = there.0
 
-  holds : MemHolds (record t { current = Some o }) k there.0
+  holds : MemHolds t k there.0
   holds = middle.memories k there.0 up there.1
 
   fits : MemFits t.shape k there.0
@@ -85,27 +85,27 @@ module _ (lost : Option ℕ) (t : Track) (o : Open) (m : Message) (k : ℕ) (pat
   -- it is the memory's batch that is out
   is_batch : (m ≡ batch_message there.0) × (0 < there.0.out) × (background there.0.id (all_pending t) ≡ batch_message there.0 ∷ [])
   is_batch = elim (eqb_tells there.0.out 0) [
-    | inl none ↦ absurd (not_none there.0.id (all_pending t) (all_pending (taken (record t { current = Some o }))) m (whole (record t { current = Some o }) m may) own (holds.batch.none none.1))
+    | inl none ↦ absurd (not_none there.0.id (all_pending t) (all_pending (taken t)) m (whole t m may) own (holds.batch.none none.1))
     | inr some ↦ let differ = some.1 in let out : 0 < there.0.out = omega (arith, differ) in by out (holds.batch.once out)
   ]
     where
       by : 0 < there.0.out → (background there.0.id (all_pending t) ≡ batch_message there.0 ∷ []) ⊎ ((background there.0.id (all_pending t) ≡ receipt there.0 ∷ []) × HasBatch t.disk.images (take there.0.out there.0.log)) → (m ≡ batch_message there.0) × (0 < there.0.out) × (background there.0.id (all_pending t) ≡ batch_message there.0 ∷ [])
-      by out (inl e) = (only_one there.0.id (all_pending t) (all_pending (taken (record t { current = Some o }))) m (batch_message there.0) (whole (record t { current = Some o }) m may) own e, out, e)
-      by out (inr e) = absurd (apart (sym what ∙ ap (λ (y : Message). y.body) (only_one there.0.id (all_pending t) (all_pending (taken (record t { current = Some o }))) m (receipt there.0) (whole (record t { current = Some o }) m may) own e.0)))
+      by out (inl e) = (only_one there.0.id (all_pending t) (all_pending (taken t)) m (batch_message there.0) (whole t m may) own e, out, e)
+      by out (inr e) = absurd (apart (sym what ∙ ap (λ (y : Message). y.body) (only_one there.0.id (all_pending t) (all_pending (taken t)) m (receipt there.0) (whole t m may) own e.0)))
         where
           apart : body.Backup patches ≡ body.BackedUp → ⊥
           apart e = cc e
 
-  batch : patches ≡ take there.0.out there.0.log
+  pub batch : patches ≡ take there.0.out there.0.log
   batch = same patches (take there.0.out there.0.log) (sym what ∙ ap (λ (y : Message). y.body) is_batch.0)
     where
       same : (a b : List Patch) → body.Backup a ≡ body.Backup b → a ≡ b
       same a b e = cc e
 
-  patches_fit : AllByRecursion PatchFits patches
+  pub patches_fit : AllByRecursion PatchFits patches
   patches_fit = subst (AllByRecursion PatchFits) (sym batch) (all_front PatchFits there.0.out there.0.log fits.log)
 
-  patches_log : AllByRecursion (LogFits (memory_count t.shape) t.owners k) patches
+  pub patches_log : AllByRecursion (LogFits (memory_count t.shape) t.owners k) patches
   patches_log = subst (AllByRecursion (LogFits (memory_count t.shape) t.owners k)) (sym batch) (all_front (LogFits (memory_count t.shape) t.owners k) there.0.out there.0.log holds.log)
 
   image_whole : (pid vpn : ℕ) (bytes : List ℕ) → page_in t.disk.images pid vpn ≡ Some bytes → length bytes ≡ 4096
@@ -118,7 +118,7 @@ module _ (lost : Option ℕ) (t : Track) (o : Open) (m : Message) (k : ℕ) (pat
   abbrev after : List PageImage
   after = overlaid patches t.disk.images
 
-  left : left_of t ≡ all_pending (taken (record t { current = Some o }))
+  left : left_of t ≡ all_pending (taken t)
   left = sym (ap (λ (ms : List Message). left_of t ++ ms) may.owed ∙ append-nil (left_of t))
 
   -- nothing of another memory changes
@@ -142,7 +142,7 @@ module _ (lost : Option ℕ) (t : Track) (o : Open) (m : Message) (k : ℕ) (pat
   background_of : (j : ℕ) → (k ≡ j → ⊥) → background j (left_of t ++ receipt_of ∷ []) ≡ background j (all_pending t)
   background_of j differ =
       filter-append (is_background j) (left_of t) (receipt_of ∷ []) ∙ ap (λ (b : Bool). background j (left_of t) ++ cond b (receipt_of ∷ []) []) (other_memory j differ).1
-      ∙ append-nil (background j (left_of t)) ∙ ap (background j) left ∙ (background-taken j (all_pending t) (all_pending (taken (record t { current = Some o }))) m (whole (record t { current = Some o }) m may)).0 (other_memory j differ).0
+      ∙ append-nil (background j (left_of t)) ∙ ap (background j) left ∙ (background-taken j (all_pending t) (all_pending (taken t)) m (whole t m may)).0 (other_memory j differ).0
 
   own_receipt : receipt_of ≡ receipt there.0
   own_receipt = λ i. record { from = place.Storage; to = (from ∙ ap memory (sym fits.id)) i; op = record { 0 = number i }; body = body.BackedUp }
@@ -151,7 +151,7 @@ module _ (lost : Option ℕ) (t : Track) (o : Open) (m : Message) (k : ℕ) (pat
   background_own =
       filter-append (is_background there.0.id) (left_of t) (receipt_of ∷ [])
       ∙ ap (λ (b : Bool). background there.0.id (left_of t) ++ cond b (receipt_of ∷ []) []) mine
-      ∙ ap (λ (l : List Message). l ++ receipt_of ∷ []) (ap (background there.0.id) left ∙ (background-taken there.0.id (all_pending t) (all_pending (taken (record t { current = Some o }))) m (whole (record t { current = Some o }) m may)).1 own (ap length is_batch.2))
+      ∙ ap (λ (l : List Message). l ++ receipt_of ∷ []) (ap (background there.0.id) left ∙ (background-taken there.0.id (all_pending t) (all_pending (taken t)) m (whole t m may)).1 own (ap length is_batch.2))
       ∙ ap (λ (r : Message). r ∷ []) own_receipt
     where
       mine : is_background there.0.id receipt_of ≡ true
@@ -178,7 +178,7 @@ module _ (lost : Option ℕ) (t : Track) (o : Open) (m : Message) (k : ℕ) (pat
       same_some : (a b : MemId) → Some a ≡ Some b → a ≡ b
       same_some a b e = cc e
 
-  page_after : (pid vpn : ℕ) → page_in after pid vpn ≡ over patches pid vpn (page_in t.disk.images pid vpn)
+  pub page_after : (pid vpn : ℕ) → page_in after pid vpn ≡ over patches pid vpn (page_in t.disk.images pid vpn)
   page_after pid vpn = page-overlaid patches t.disk.images pid vpn
 
   batch_after : (j : ℕ) (s : Mem) → IsUp lost j → slice_get t.mems j ≡ Some s → BatchFits (left_of t ++ receipt_of ∷ []) after s
@@ -253,18 +253,19 @@ module _ (lost : Option ℕ) (t : Track) (o : Open) (m : Message) (k : ℕ) (pat
                 ]
           ]
 
-  no_number : (r : Message) → r.op.0 ≡ 0 → (r.op.0 == o.number.0) ≡ false
-  no_number r zero_ = elim (eqb_tells r.op.0 o.number.0) [
-    | inl same ↦ let is = same.1 in let some = middle.current.0.some in absurd (omega (arith, is, zero_, some))
-    | inr other ↦ other.0
-  ]
-
-  pub backup_gives : FileGives lost t o (record { images = overlaid patches t.disk.images; files = t.disk.files }) (record { from = place.Storage; to = m.from; op = m.op; body = body.BackedUp } ∷ [])
+  pub backup_gives : FileRow lost t (record { images = overlaid patches t.disk.images; files = t.disk.files }) (record { from = place.Storage; to = m.from; op = m.op; body = body.BackedUp } ∷ [])
   backup_gives = record {
     sends = (record { from = tt; to = pends.from; kind = OfBackground (record { number = number; of = k; up = up; batch = Returns refl from refl }) }, tt);
     from = (refl, tt);
     pages = λ j s less up_j at pid vpn. inl (pages_stay j s less up_j at pid vpn);
-    pages_told = λ unwritten due. inl (told due);
+    pages_told = λ unwritten due. inl (told t.current middle.current due);
+    bare = λ j less is pid vpn mine. stays_either (sides_of t) j pid vpn (page_in t.disk.images pid vpn) (page_in after pid vpn) mine (inl (page_after pid vpn ∙ (elim (touch_cases (memory_count t.shape) k t.owners pid vpn patches patches_log) [
+      | inl quiet ↦ untouched patches pid vpn (page_in t.disk.images pid vpn) quiet
+      | inr its ↦
+          let owner : eqb its.0.0 j ≡ true = sym (ap (is_owner j) its.1) ∙ mine in
+          absurd (lost_up lost up (is ∙ ap (λ (q : ℕ). Some (secondary_of (memory_count t.shape) q)) (sym (eqb-true its.0.0 j owner)) ∙ ap (λ (q : ℕ). Some q) its.2))
+    ])));
+    background = λ j is. background_of j (λ same. lost_up lost up (is ∙ ap (λ (q : ℕ). Some q) (sym same)));
     batches = batch_after;
     blocks = λ j s up_j at. every (λ b fit. record {
       place = fit.place;
@@ -272,7 +273,7 @@ module _ (lost : Option ℕ) (t : Track) (o : Open) (m : Message) (k : ℕ) (pat
       same = fit.same;
       still = of_first (λ (y : Message). changes_block b y.body) (left_of t) (receipt_of ∷ []) refl
           ∙ ap (list_any (λ (y : Message). changes_block b y.body)) left
-          ∙ changes_less (record t { current = Some o }) m may b fit.still;
+          ∙ changes_less t m may b fit.still;
     }) s.blocks (middle.memories j s up_j at).blocks;
     files = inl refl;
     told = λ now. absurd (no_answer now);
@@ -283,16 +284,36 @@ module _ (lost : Option ℕ) (t : Track) (o : Open) (m : Message) (k : ℕ) (pat
     form = overlaid_fit patches t.disk.images patches_fit middle.disk.form;
   }
     where
-      no_answer : answers_now o (receipt_of ∷ []) ≡ true → ⊥
-      no_answer now = let both : false ≡ true = sym (ap (λ (b : Bool). (b && same_place place.Storage place.Storage && same_place m.from o.by && answers_to (patch_of o.operation) body.BackedUp) || false) (no_number receipt_of number)) ∙ now in cc both
+      lost_up : (lost : Option ℕ) → IsUp lost k → lost ≡ Some k → ⊥
+      lost_up None up e = cc e
+      lost_up (Some c) up e = up (one_number c k e)
+        where
+          one_number : (a b : ℕ) → Some a ≡ Some b → a ≡ b
+          one_number a b e = cc e
 
-      told : (is_storage_true (left_of t) t.healing (Some o) && gave_answer place.Storage (left_of t ++ receipt_of ∷ []) (Some o)) ≡ true → (is_storage_true t.net t.healing (Some o) && gave_answer place.Storage (all_pending t) (Some o)) ≡ true
-      told due =
+      -- numbers of operations are positive
+      no_number : (o : Open) → CurrentFits t (Some o) → (r : Message) → r.op.0 ≡ 0 → (r.op.0 == o.number.0) ≡ false
+      no_number o fits r zero_ = elim (eqb_tells r.op.0 o.number.0) [
+        | inl same ↦ let is = same.1 in let some = fits.0.some in absurd (omega (arith, is, zero_, some))
+        | inr other ↦ other.0
+      ]
+
+      quiet : (c : Option Open) → CurrentFits t c → answers_at place.Storage c (receipt_of ∷ []) ≡ false
+      quiet None fits = refl
+      quiet (Some o) fits = ap (λ (b : Bool). (b && same_place place.Storage place.Storage && same_place m.from o.by && answers_to (patch_of o.operation) body.BackedUp) || false) (no_number o fits receipt_of number)
+
+      no_answer : answers_at place.Storage t.current (receipt_of ∷ []) ≡ true → ⊥
+      no_answer now = let both : false ≡ true = sym (quiet t.current middle.current) ∙ now in cc both
+
+      -- whether storage was asked, and has answered, is as before
+      told : (c : Option Open) → CurrentFits t c → (is_storage_true (left_of t) t.healing c && gave_answer place.Storage (left_of t ++ receipt_of ∷ []) c) ≡ true → (is_storage_true t.net t.healing c && gave_answer place.Storage (all_pending t) c) ≡ true
+      told None fits due = due
+      told (Some o) fits due =
           let both = both_true (is_storage_true (left_of t) t.healing (Some o)) (gave_answer place.Storage (left_of t ++ receipt_of ∷ []) (Some o)) due in
           (λ i. storage i && gave_answer place.Storage (all_pending t) (Some o)) ∙ ap (λ (b : Bool). b && gave_answer place.Storage (all_pending t) (Some o)) both.0 ∙ gave both.1
         where
           storage : is_storage_true t.net t.healing (Some o) ≡ is_storage_true (left_of t) t.healing (Some o)
-          storage = ap (λ (b : Bool). not (heals_target t.healing (Some o)) && not (list_any (asks_storage_by o.number.0) o.unsent || b)) (any_same (asks_storage_by o.number.0) t.net (left_of t) m (split (record t { current = Some o }) m may) (ap (λ (b : Bool). b && same_place m.to place.Storage) (no_number m number)))
+          storage = ap (λ (b : Bool). not (heals_target t.healing (Some o)) && not (list_any (asks_storage_by o.number.0) o.unsent || b)) (any_same (asks_storage_by o.number.0) t.net (left_of t) m (split t m may) (ap (λ (b : Bool). b && same_place m.to place.Storage) (no_number o fits m number)))
 
           gave : gave_answer place.Storage (left_of t ++ receipt_of ∷ []) (Some o) ≡ true → gave_answer place.Storage (all_pending t) (Some o) ≡ true
-          gave e = ap (λ (b : Bool). has_answered place.Storage o.answers || b) (any_same (is_answer_from o place.Storage) (all_pending t) (all_pending (taken (record t { current = Some o }))) m (whole (record t { current = Some o }) m may) (ap (λ (b : Bool). b && same_place m.from place.Storage && same_place m.to o.by && answers_to (patch_of o.operation) m.body) (no_number m number)) ∙ ap (list_any (is_answer_from o place.Storage)) (sym left) ∙ sym (of_first (is_answer_from o place.Storage) (left_of t) (receipt_of ∷ []) (ap (λ (b : Bool). (b && same_place place.Storage place.Storage && same_place m.from o.by && answers_to (patch_of o.operation) body.BackedUp) || false) (no_number receipt_of number)))) ∙ e
+          gave e = ap (λ (b : Bool). has_answered place.Storage o.answers || b) (any_same (is_answer_from o place.Storage) (all_pending t) (all_pending (taken t)) m (whole t m may) (ap (λ (b : Bool). b && same_place m.from place.Storage && same_place m.to o.by && answers_to (patch_of o.operation) m.body) (no_number o fits m number)) ∙ ap (list_any (is_answer_from o place.Storage)) (sym left) ∙ sym (of_first (is_answer_from o place.Storage) (left_of t) (receipt_of ∷ []) (ap (λ (b : Bool). (b && same_place place.Storage place.Storage && same_place m.from o.by && answers_to (patch_of o.operation) body.BackedUp) || false) (no_number o fits receipt_of number)))) ∙ e

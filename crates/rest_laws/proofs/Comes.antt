@@ -65,13 +65,13 @@ module _ (t : Track) (o : Open) (m : Message) (may : MayDeliver (record t { heal
         where
           receipt : IsBatch m of.of → RowGives None calm o k s (handled s m).0 (handled s m).1
           receipt (Goes from to' patches what) = absurd (storage_no_memory k (sym to ∙ to'))
-          receipt (Returns from to' what) = subst (λ (told : Body). RowGives None calm o k s (handled_body s m told).0 (handled_body s m told).1) (sym what) (receipt_gives None calm o m k s may middle of.number tt from to what at (λ w fits rest. rest tt))
+          receipt (Returns from to' what) = subst (λ (told : Body). RowGives None calm o k s (handled_body s m told).0 (handled_body s m told).1) (sym what) (receipt_gives None busy m k s may middle of.number tt from to what at (λ w fits rest. rest tt))
       by (Left old) = let both : false ≡ true = ap is_issuer (sym to) ∙ old.to in cc both
 
   memory_comes : (k : ℕ) → m.to ≡ memory k → Middle None (memory_handles (taken busy) k m (slice_get t.mems k))
   memory_comes k to =
       let there = here in
-      subst (λ (x : Option Mem). Middle None (memory_handles (taken busy) k m x)) (sym there.1) (given_keeps None calm o k there.0 (handled there.0 m).0 m (handled there.0 m).1 may to there.1 middle (row_comes k there.0 to there.1) refl)
+      subst (λ (x : Option Mem). Middle None (memory_handles (taken busy) k m x)) (sym there.1) (given_keeps None busy k there.0 (handled there.0 m).0 m (handled there.0 m).1 may to there.1 middle (row_comes k there.0 to there.1) refl)
     where
       here : (s : Mem) × (slice_get t.mems k ≡ Some s)
       here =
@@ -89,12 +89,12 @@ module _ (t : Track) (o : Open) (m : Message) (may : MayDeliver (record t { heal
       by (OfBackground of) = batch of.batch
         where
           batch : IsBatch m of.of → FileGives None calm o (stored t.disk m).0 (stored t.disk m).1
-          batch (Goes from to' patches what) = subst (λ (told : Body). FileGives None calm o (stored_body t.disk m told).0 (stored_body t.disk m told).1) (sym what) (backup_gives None calm o m of.of patches may middle of.number tt from to what)
+          batch (Goes from to' patches what) = subst (λ (told : Body). FileGives None calm o (stored_body t.disk m told).0 (stored_body t.disk m told).1) (sym what) (backup_gives None busy m of.of patches may middle of.number tt from to what)
           batch (Returns from to' what) = absurd (storage_no_memory of.of (sym to' ∙ to))
       by (Left old) = let both : false ≡ true = ap is_issuer (sym to) ∙ old.to in cc both
 
   storage_comes : m.to ≡ place.Storage → Middle None (record (taken busy) { disk = (stored t.disk m).0; owed = (stored t.disk m).1 })
-  storage_comes to = filed_keeps None calm o (stored t.disk m).0 m (stored t.disk m).1 may middle (file_comes to) refl
+  storage_comes to = filed_keeps None busy (stored t.disk m).0 m (stored t.disk m).1 may middle (file_comes to) refl
 
   -- AN ISSUER that is refused: the run stops
   abbrev stopped_moment : Moment

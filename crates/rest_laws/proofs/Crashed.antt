@@ -7,31 +7,34 @@ use Rattle.std.specs.List.{AllByRecursion, list_any}
 use Rattle.std.specs.Prelude.{slice_set}
 use Rattle.lego_base.specs.declared.shape.CrashAt.{CrashAt}
 use Rattle.lego_msg.proofs.Senders.{get_set, get_set_other, same_some}
-use Rattle.lego_msg.specs.Granted.{IsClear}
+use Rattle.lego_msg.specs.Granted.{IsClear, asks_clear}
+use Rattle.lego_msg.specs.Maps.{overlaid, page_in}
 use Rattle.lego_msg.specs.Crashes.{IsEntry, IsNextInc, crashed, forgotten, is_crash_moment, is_idle, memory_lost}
 use Rattle.lego_msg.specs.Healing.{moves_of}
 use Rattle.lego_msg.specs.Marks.{is_turn_end}
 use Rattle.lego_msg.specs.Operations.{asks_of}
-use Rattle.lego_msg.specs.Places.{is_issuer, lose, memory, same_place, secondary_of}
+use Rattle.lego_msg.specs.Places.{guarded_by, is_issuer, lose, memory, same_place, secondary_of}
 use Rattle.lego_msg.specs.Plain.{Plain, effect}
 use Rattle.lego_msg.specs.State.{Block, Mem, Waiter, lost}
 use Rattle.lego_msg.specs.Track.{Track, forget, is_crash_due, is_crash_left, is_now, is_of_turn, memory_count, next_crash}
 use Rattle.lego_msg.specs.declared.healing.Healing.{Healing}
-use Rattle.lego_msg.specs.declared.healing.Move.{Move}
-use Rattle.lego_msg.specs.declared.healing.Move.TheVariants.{Asks, HandsImages, HandsMeta, HandsPages}
 use Rattle.lego_msg.specs.declared.message.Message.{Message}
 use Rattle.lego_msg.specs.declared.operation.Open.{Open}
 use Rattle.lego_msg.specs.declared.operation.Operation.{Operation}
 use Rattle.lego_msg.specs.declared.operation.Operation.TheVariants.{AsksAreas, AsksSize, Copies, CutsFile, CutsName, Drains, Drops, Finds, FreesFile, GetsName, Heals, ListsNames, MakesName, Reads, ReadsFile, SetsAreas, SetsHome, Unmaps, Writes, WritesFile}
 use Rattle.lego_msg.specs.declared.place.Place.{Place}
 use Rattle.lego_msg.specs.declared.place.Place.TheVariants.{Manager, Memory, Processor, Storage}
-use Rattle.lego_msg.specs.declared.place.Role.TheVariants.{Main, Spare}
 use Rattle.lego_rest.specs.Answers.{all_pending, asks_storage_by, gave_answer, heals_target, is_storage_asked, is_storage_true, is_writing, second_due}
 use Rattle.lego_rest.specs.Fits.{CrashesRise, MemFits, WaiterFits, background, changes_block, is_background}
-use Rattle.lego_rest.specs.Heals.{HealFits, NotYet, NumbersDiffer}
-use Rattle.lego_rest.specs.Parts.{Areas, Cell, Home, Page, new_share, old_share, owns, plain_with, second_part, sides_of}
+use Rattle.lego_rest.specs.Heals.{HealFits, NumbersDiffer, open_clear}
+use Rattle.lego_rest.specs.Parts.{Areas, Cell, Home, IsEither, Page, new_share, old_share, owns, plain_with, second_part, sides_of}
 use Rattle.lego_rest.specs.Pending.{AnAnswer, First, FromUp, Goes as BatchGoes, HandedOn, HandsOn, IsBatch, IsNot, IsOf, Left, MayPend, OfBackground, OfMove, OfOpen, OfOperation, Pends, Reaction, Returns}
 use Rattle.lego_rest.specs.Rest.{CurrentFits, IsReady, Middle, SecondHolds}
+use Rattle.rest_laws.proofs.Around.{guards-its-own}
+use Rattle.rest_laws.proofs.Bare.{get_below}
+use Rattle.rest_laws.proofs.Lookup.{page-overlaid}
+use Rattle.rest_laws.proofs.Pages.{untouched}
+use Rattle.rest_laws.proofs.kinds.Images.{clear_of}
 use Rattle.rest_laws.proofs.Lost.{IsApart, all_kept, all_left, any_left, background_gone, background_stays, gave_before, gave_none, plain_stays}
 use Rattle.rest_laws.proofs.Opened.{answers_as_before, every, first_from, of_open, waits_as_before}
 use Rattle.rest_laws.proofs.Truth.{and_true, back_false, both_true, not_true}
@@ -208,18 +211,6 @@ waits_left : (n k next : ℕ) (p : Place) (current : Option Open) (w : Waiter) �
 waits_left n k next p None w fits = fits
 waits_left n k next p (Some o) w fits = waits_as_before o o.unsent (forget p o.answers) n k next None w fits
 
--- THE HEALING BEGINS: none of its moves has done anything yet
-not_yet : (s : Mem) (move : Move) → NotYet (lost s) move
-not_yet s (Asks to what) = tt
-not_yet s (HandsMeta to Main) = refl
-not_yet s (HandsMeta to Spare) = refl
-not_yet s (HandsImages to pid region) = λ vpn e. refl
-not_yet s (HandsPages pid region) = tt
-
-all_not_yet : (s : Mem) (moves : List Move) → AllByRecursion (NotYet (lost s)) moves
-all_not_yet s [] = tt
-all_not_yet s (move ∷ moves) = (not_yet s move, all_not_yet s moves)
-
 -- NO SECOND CRASH in a turn: the turns of the crash list rise
 later_turn : (crashes : List CrashAt) (i : ℕ) (e f : CrashAt) → CrashesRise crashes → slice_get crashes i ≡ Some e → slice_get crashes (i + 1) ≡ Some f → e.turn < f.turn
 later_turn [] i e f rise at next_ = cc at
@@ -326,11 +317,12 @@ module _ (t : Track) (c : ℕ) (s : Mem) (at_c : slice_get t.mems c ≡ Some s) 
     waiting = λ m x at. at_each (λ (m : ℕ) (x : Mem). AllByRecursion (WaiterFits (memory_count t.shape) m t.next (forgotten (memory c) t.current) None) x.drains) m x at tt (λ differ was. every (waits_left (memory_count t.shape) m t.next (memory c) t.current) x.drains (middle.waiting m x was));
     healing = (
       refl,
-      record {
+      λ goes_on. record {
         stands = record { x = lost s; at = get_set t.mems c s (lost s) at_c; done = []; ahead = moves_of (memory_count t.shape) c t.owners; all = refl; rest = refl; log = refl; out = refl; drains = refl; blocks = refl };
-        between = (tt, all_not_yet s (moves_of (memory_count t.shape) c t.owners), tt, eqb-suc-zero _);
+        between = (tt, tt, eqb-suc-zero _);
         background = ap (background c) new_pending ∙ background_gone c t.net;
         pages = λ pid vpn old new. refl;
+        clear = λ pid vpn is mine. clear t.current refl pid vpn is mine;
         forgotten = ap (λ (ms : List Message). gave_answer (memory c) ms (forgotten (memory c) t.current)) new_pending ∙ gave_none (memory c) t.net t.current;
         one_done = λ done. cc done;
         no_second = no_second;
@@ -342,6 +334,26 @@ module _ (t : Track) (c : ℕ) (s : Mem) (at_c : slice_get t.mems c ≡ Some s) 
     where
       no_healing : Some beginning ≡ None → ⊥
       no_healing e = cc e
+
+      -- no log had a patch of such a page, so its image is what the log was laid over
+      clear : (d : Option Open) → t.current ≡ d → (pid vpn : ℕ) → open_clear (forgotten (memory c) d) pid vpn ≡ true → owns t.owners (guarded_by (memory_count t.shape) c) pid (vpn / 512) ≡ true →
+          IsEither (record { n = memory_count t.shape; owners = t.owners; old = t.plain; new = plain_with (forgotten (memory c) d) t.plain }) (guarded_by (memory_count t.shape) c) (Page pid vpn) (page_in t.disk.images pid vpn)
+      clear None is pid vpn asks mine = cc asks
+      clear (Some o) is pid vpn asks mine =
+          let q = guarded_by (memory_count t.shape) c in
+          let count = middle.count in
+          let inside = get_below t.mems c s at_c in
+          let own = guards-its-own (memory_count t.shape) c middle.machine.two (omega (arith, count, inside)) in
+          let fits : CurrentFits before (Some o) = subst (CurrentFits before) is middle.current in
+          let either = (middle.seconds q s own.0 tt (ap (slice_get t.mems) own.1 ∙ at_c)).part.either (Page pid vpn) in
+          let part : second_part t.owners t.disk.images q s (Page pid vpn) ≡ page_in t.disk.images pid vpn =
+          ap (λ (b : Bool). cond b (page_in (overlaid s.log t.disk.images) pid vpn) None) mine ∙ page-overlaid s.log t.disk.images pid vpn
+          ∙ untouched s.log pid vpn (page_in t.disk.images pid vpn) (clear_of (asks_clear o.operation) pid vpn asks s.log (fits.1 c s at_c)) in
+          by (subst (λ (d : Option Open). IsEither (record { n = memory_count t.shape; owners = t.owners; old = t.plain; new = plain_with d t.plain }) q (Page pid vpn) (second_part t.owners t.disk.images q s (Page pid vpn))) is either) part
+        where
+          by : IsEither (record { n = memory_count t.shape; owners = t.owners; old = t.plain; new = effect o.operation t.plain }) (guarded_by (memory_count t.shape) c) (Page pid vpn) (second_part t.owners t.disk.images (guarded_by (memory_count t.shape) c) s (Page pid vpn)) → second_part t.owners t.disk.images (guarded_by (memory_count t.shape) c) s (Page pid vpn) ≡ page_in t.disk.images pid vpn → IsEither (record { n = memory_count t.shape; owners = t.owners; old = t.plain; new = effect o.operation t.plain }) (guarded_by (memory_count t.shape) c) (Page pid vpn) (page_in t.disk.images pid vpn)
+          by (inl e) part = inl (sym part ∙ e)
+          by (inr e) part = inr (sym part ∙ e)
 
       no_move : (current : Option Open) → NumbersDiffer (forgotten (memory c) current) None
       no_move None = tt

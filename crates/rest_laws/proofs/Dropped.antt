@@ -48,20 +48,20 @@ module _ (lost : Option ℕ) (t : Track) (m : Message) (may : MayDeliver t m) (i
 
   heal_goes : (h : Option Healing) → IsNot (healing_move h) m.op.0 → HealFits lost t h → HealFits lost (taken t) h
   heal_goes None none fits = fits
-  heal_goes (Some h) none fits =
-      let holds = fits.1 in (
-        fits.0,
-        record {
-          stands = holds.stands;
-          between = between_goes t m may (scene_of t) holds.stands.x h.memory.0 t.next holds.stands.done h.current h.got holds.stands.ahead none holds.between;
-          background = batches_same t m may old.some h.memory.0 ∙ holds.background;
-          pages = holds.pages;
-          forgotten = back_false (gave_answer (memory h.memory.0) (all_pending t) t.current) (gave_answer (memory h.memory.0) (rest_of ++ t.owed) t.current) (gave_less (memory h.memory.0) (all_pending t) (rest_of ++ t.owed) m (whole t m may) t.current) holds.forgotten;
-          one_done = λ done. sym (done_same t.net rest_of m (split t m may) t.current not_current) ∙ holds.one_done (done_same t.net rest_of m (split t m may) h.current none ∙ done);
-          no_second = holds.no_second;
-          apart = holds.apart;
-        },
-      )
+  heal_goes (Some h) none fits = (
+    fits.0,
+    λ goes_on. let holds = fits.1 goes_on in record {
+      stands = holds.stands;
+      between = between_goes t m may (scene_of t) holds.stands.x h.memory.0 t.next holds.stands.done h.current h.got holds.stands.ahead none holds.between;
+      background = batches_same t m may old.some h.memory.0 ∙ holds.background;
+      pages = holds.pages;
+      clear = holds.clear;
+      forgotten = back_false (gave_answer (memory h.memory.0) (all_pending t) t.current) (gave_answer (memory h.memory.0) (rest_of ++ t.owed) t.current) (gave_less (memory h.memory.0) (all_pending t) (rest_of ++ t.owed) m (whole t m may) t.current) holds.forgotten;
+      one_done = λ done. sym (done_same t.net rest_of m (split t m may) t.current not_current) ∙ holds.one_done (done_same t.net rest_of m (split t m may) h.current none ∙ done);
+      no_second = holds.no_second;
+      apart = holds.apart;
+    },
+  )
 
   images_same : (k : ℕ) → images_due (taken t) k ≡ true → images_due t k ≡ true
   images_same k e = by (is_writing t.current) e

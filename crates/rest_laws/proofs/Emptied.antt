@@ -129,7 +129,7 @@ pub logs-grow-by-writes : LogsGrowByWrites
 logs-grow-by-writes s m none = body_log s m m.body none
 
 -- NO MESSAGE of an operation that doesn't write goes to a log
-abbrev is_log_write : Body → Bool
+abbrev pub is_log_write : Body → Bool
 is_log_write (LogWrite patch) = true
 is_log_write other = false
 
@@ -137,7 +137,7 @@ each_quiet : (by : Place) (number : OpNo) (count k : ℕ) (what last : Body) →
 each_quiet by number zero k what last quiet quiet' = (quiet', tt)
 each_quiet by number (suc count) k what last quiet quiet' = (quiet, each_quiet by number count (k + 1) what last quiet quiet')
 
-first_quiet : (n : ℕ) (by : Place) (number : OpNo) (o : Operation) → is_write o ≡ false → IsCalled o → AllByRecursion (λ (x : Message). is_log_write x.body ≡ false) (messages_of by number (asks_of n o))
+pub first_quiet : (n : ℕ) (by : Place) (number : OpNo) (o : Operation) → is_write o ≡ false → IsCalled o → AllByRecursion (λ (x : Message). is_log_write x.body ≡ false) (messages_of by number (asks_of n o))
 first_quiet n by number (op.Finds pid region) none called = (refl, tt)
 first_quiet n by number (op.Reads pid line owner) none called = (refl, tt)
 first_quiet n by number (op.Writes origin patch owner) none called = cc none
@@ -159,7 +159,7 @@ first_quiet n by number op.ListsNames none called = (refl, tt)
 first_quiet n by number (op.FreesFile file) none called = (refl, tt)
 first_quiet n by number (op.Heals to what) none called = absurd called
 
-no_reaction : (n : ℕ) (o : Operation) (to : Place) (told : Body) → is_write o ≡ false → Reacts n o to told → ⊥
+pub no_reaction : (n : ℕ) (o : Operation) (to : Place) (told : Body) → is_write o ≡ false → Reacts n o to told → ⊥
 no_reaction n (op.Finds pid region) to told none how = how
 no_reaction n (op.Reads pid line owner) to told none how = how
 no_reaction n (op.Writes origin patch owner) to told none how = cc none
@@ -181,7 +181,7 @@ no_reaction n op.ListsNames to told none how = how
 no_reaction n (op.FreesFile file) to told none how = how
 no_reaction n (op.Heals to_ what_) to told none how = how
 
-hands_quiet : (n : ℕ) (f : Plain) (by : Place) (o : Operation) (m : Message) → HandsOn n f by o m → is_log_write m.body ≡ false
+pub hands_quiet : (n : ℕ) (f : Plain) (by : Place) (o : Operation) (m : Message) → HandsOn n f by o m → is_log_write m.body ≡ false
 hands_quiet n f by (op.Finds pid region) m how = absurd how
 hands_quiet n f by (op.Reads pid line owner) m how = absurd how
 hands_quiet n f by (op.Writes origin patch owner) m how = absurd how

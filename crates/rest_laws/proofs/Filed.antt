@@ -1,27 +1,25 @@
 -- Storage gets a message while an operation is open: what its row of the message table must give so that the relation is
 -- kept.
-use Rattle.std.proofs.Common.{◌≡◌, ◌⊎◌, ◌+◌, ◌/◌, ◌<◌, ◌==◌, ◌&&◌, ◌||◌, [], ◌∷◌, ◌++◌, ◌∙◌, ℕ, Bool, List, None, Option, Some, ap, append-nil, cond, false, inl, inr, refl, slice_get, subst, sym, true}
-use Rattle.std.proofs.lemmas.List.Folds.{list_any-append}
+use Rattle.std.proofs.Common.{◌≡◌, ◌⊎◌, ◌+◌, ◌/◌, ◌<◌, ◌&&◌, ◌++◌, ◌∙◌, ℕ, Bool, List, None, Option, Some, ap, append-nil, cond, false, inl, inr, refl, slice_get, subst, sym, true}
 use Rattle.std.specs.List.{AllByRecursion, list_any}
-use Rattle.lego_msg.specs.Deliveries.{MayDeliver, taken}
+use Rattle.lego_msg.specs.Deliveries.{MayDeliver, is_waiting, taken}
 use Rattle.lego_msg.specs.Maps.{owner_of, page_in}
-use Rattle.lego_msg.specs.Operations.{is_write, patch_of}
 use Rattle.lego_msg.specs.Places.{memory, same_place, secondary_of}
 use Rattle.lego_msg.specs.State.{Disk, Mem}
-use Rattle.lego_msg.specs.Track.{Track, has_answered, healing_move, memory_count}
+use Rattle.lego_msg.specs.Track.{Track, healing_move, memory_count}
 use Rattle.lego_msg.specs.declared.message.Message.{Message}
 use Rattle.lego_msg.specs.declared.operation.Open.{Open}
 use Rattle.lego_msg.specs.declared.place.Place.{Place}
-use Rattle.lego_rest.specs.Answers.{all_pending, answers_to, gave_answer, is_answer_from, is_storage_true, second_due}
-use Rattle.lego_rest.specs.Fits.{BatchFits, BlockFits, PagesFit}
+use Rattle.lego_rest.specs.Answers.{all_pending, gave_answer, is_answer_from, is_storage_true, is_writing, second_due}
+use Rattle.lego_rest.specs.Fits.{BatchFits, BlockFits, PagesFit, background}
 use Rattle.lego_rest.specs.Heals.{HealFits}
-use Rattle.lego_rest.specs.Parts.{Areas, Cell, Home, Page, new_share, second_part, sides_of}
+use Rattle.lego_rest.specs.Parts.{Areas, Cell, Home, IsEither, Page, Sides, new_share, owns, second_part, sides_of}
 use Rattle.lego_rest.specs.Pending.{IsUp, MayPend}
 use Rattle.lego_rest.specs.Rest.{CurrentFits, Middle}
-use Rattle.rest_laws.proofs.Delivered.{left_of, none_of}
+use Rattle.rest_laws.proofs.Delivered.{answers_at, gave_other, gave_then, left_of, some_waits}
 use Rattle.rest_laws.proofs.Opened.{all_both}
 use Rattle.rest_laws.proofs.Stepping.{storing-keeps}
-use Rattle.rest_laws.proofs.Taken.{all_sent, all_taken, any_less, whole}
+use Rattle.rest_laws.proofs.Taken.{all_sent, all_taken, whole}
 use Rattle.rest_laws.specs.Steps.{Moment, Storing}
 use Rattle.lego_msg.specs.declared.place.Place.TheVariants as place
 
@@ -30,37 +28,47 @@ abbrev pub answers_now : Open → List Message → Bool
 answers_now o out = list_any (is_answer_from o place.Storage) out
 
 -- the track once storage, which is d then, got the message
-abbrev pub filed_track : Track → Open → Disk → List Message → Track
-filed_track t o d out = record (taken (record t { current = Some o })) { disk = d; owed = out }
+abbrev pub filed_track : Track → Disk → List Message → Track
+filed_track t d out = record (taken t) { disk = d; owed = out }
 
 -- WHAT A ROW GIVES: storage becomes d, and sends `out`
-pub record FileGives (lost : Option ℕ) (t : Track) (o : Open) (d : Disk) (out : List Message) : Type 0 where
-  pub sends : AllByRecursion (MayPend lost (memory_count t.shape) t.plain (Some o) (healing_move t.healing) t.next) out
+pub record FileRow (lost : Option ℕ) (t : Track) (d : Disk) (out : List Message) : Type 0 where
+  pub sends : AllByRecursion (MayPend lost (memory_count t.shape) t.plain t.current (healing_move t.healing) t.next) out
   pub from : AllByRecursion (λ (r : Message). r.from ≡ place.Storage) out
   -- the pages that a secondary x of j has with the images stay or become the new ones
   pub pages : (j : ℕ) (x : Mem) → j < memory_count t.shape → IsUp lost (secondary_of (memory_count t.shape) j) → slice_get t.mems (secondary_of (memory_count t.shape) j) ≡ Some x → (pid vpn : ℕ) →
-      (second_part t.owners d.images j x (Page pid vpn) ≡ second_part t.owners t.disk.images j x (Page pid vpn)) ⊎ (second_part t.owners d.images j x (Page pid vpn) ≡ new_share (sides_of (record t { current = Some o })) j (Page pid vpn))
-  pub pages_told : is_write o.operation ≡ false → (is_storage_true (left_of t) t.healing (Some o) && gave_answer place.Storage (left_of t ++ out) (Some o)) ≡ true →
-      ((is_storage_true t.net t.healing (Some o) && gave_answer place.Storage (all_pending t) (Some o)) ≡ true)
-      ⊎ ((j : ℕ) (x : Mem) → j < memory_count t.shape → IsUp lost (secondary_of (memory_count t.shape) j) → slice_get t.mems (secondary_of (memory_count t.shape) j) ≡ Some x → (pid vpn : ℕ) → second_part t.owners d.images j x (Page pid vpn) ≡ new_share (sides_of (record t { current = Some o })) j (Page pid vpn))
+      (second_part t.owners d.images j x (Page pid vpn) ≡ second_part t.owners t.disk.images j x (Page pid vpn)) ⊎ (second_part t.owners d.images j x (Page pid vpn) ≡ new_share (sides_of t) j (Page pid vpn))
+  pub pages_told : is_writing t.current ≡ false → (is_storage_true (left_of t) t.healing t.current && gave_answer place.Storage (left_of t ++ out) t.current) ≡ true →
+      ((is_storage_true t.net t.healing t.current && gave_answer place.Storage (all_pending t) t.current) ≡ true)
+      ⊎ ((j : ℕ) (x : Mem) → j < memory_count t.shape → IsUp lost (secondary_of (memory_count t.shape) j) → slice_get t.mems (secondary_of (memory_count t.shape) j) ≡ Some x → (pid vpn : ℕ) → second_part t.owners d.images j x (Page pid vpn) ≡ new_share (sides_of t) j (Page pid vpn))
+  -- and images of pages whose log is lost stay old or new
+  pub bare : (j : ℕ) → j < memory_count t.shape → lost ≡ Some (secondary_of (memory_count t.shape) j) → (pid vpn : ℕ) → owns t.owners j pid (vpn / 512) ≡ true →
+      IsEither (sides_of t) j (Page pid vpn) (page_in t.disk.images pid vpn) → IsEither (sides_of t) j (Page pid vpn) (page_in d.images pid vpn)
+  pub background : (j : ℕ) → lost ≡ Some j → background j (left_of t ++ out) ≡ background j (all_pending t)
   pub batches : (m : ℕ) (s : Mem) → IsUp lost m → slice_get t.mems m ≡ Some s → BatchFits (left_of t ++ out) d.images s
   pub blocks : (m : ℕ) (s : Mem) → IsUp lost m → slice_get t.mems m ≡ Some s → AllByRecursion (BlockFits (memory_count t.shape) m d.files (left_of t ++ out)) s.blocks
-  pub files : (d.files ≡ t.disk.files) ⊎ (d.files ≡ (sides_of (record t { current = Some o })).new.files)
-  pub told : answers_now o out ≡ true → d.files ≡ (sides_of (record t { current = Some o })).new.files
+  pub files : (d.files ≡ t.disk.files) ⊎ (d.files ≡ (sides_of t).new.files)
+  pub told : answers_at place.Storage t.current out ≡ true → d.files ≡ (sides_of t).new.files
   pub images : (pid vpn : ℕ) → owner_of t.owners pid (vpn / 512) ≡ None → page_in d.images pid vpn ≡ None
   pub form : PagesFit d.images
 
-module _ (lost : Option ℕ) (t : Track) (o : Open) (d : Disk) (m : Message) (out : List Message) (may : MayDeliver (record t { current = Some o }) m) (middle : Middle lost (record t { current = Some o })) (gives : FileGives lost t o d out) where
-  abbrev open_track : Track
-  open_track = record t { current = Some o }
+-- an image that stays or becomes the new one stays old or new
+pub stays_either : (b : Sides) (j pid vpn : ℕ) (before after : Option (List ℕ)) → owns b.owners j pid (vpn / 512) ≡ true → (after ≡ before) ⊎ (after ≡ b.new.page pid vpn) → IsEither b j (Page pid vpn) before → IsEither b j (Page pid vpn) after
+stays_either b j pid vpn before after mine (inl same) (inl e) = inl (same ∙ e)
+stays_either b j pid vpn before after mine (inl same) (inr e) = inr (same ∙ e)
+stays_either b j pid vpn before after mine (inr new) was = inr (new ∙ sym (ap (λ (x : Bool). cond x (b.new.page pid vpn) None) mine))
 
+abbrev pub FileGives : Option ℕ → Track → Open → Disk → List Message → Type 0
+FileGives lost t o d out = FileRow lost (record t { current = Some o }) d out
+
+module _ (lost : Option ℕ) (t : Track) (d : Disk) (m : Message) (out : List Message) (may : MayDeliver t m) (middle : Middle lost t) (gives : FileRow lost t d out) where
   abbrev file_moment : Moment
   file_moment = record {
     net = left_of t;
     owed = out;
     delivered = t.delivered + 1;
     next = t.next;
-    current = Some o;
+    current = t.current;
     healing = t.healing;
     clock = record t.clock { since = t.clock.since + 1 };
     stopped = t.stopped;
@@ -68,92 +76,70 @@ module _ (lost : Option ℕ) (t : Track) (o : Open) (d : Disk) (m : Message) (ou
     due = t.due;
   }
 
-  fits : CurrentFits open_track (Some o)
-  fits = middle.current
-
-  left : left_of t ≡ all_pending (taken open_track)
+  left : left_of t ≡ all_pending (taken t)
   left = sym (ap (λ (ms : List Message). left_of t ++ ms) may.owed ∙ append-nil (left_of t))
 
-  less : (test : Message → Bool) → list_any test (left_of t) ≡ true → list_any test (all_pending open_track) ≡ true
-  less test e = any_less test (all_pending open_track) (all_pending (taken open_track)) m (whole open_track m may) (ap (list_any test) (sym left) ∙ e)
+  pub filed_gave : (p : Place) → gave_answer p (left_of t ++ out) t.current ≡ true → (gave_answer p (all_pending t) t.current ≡ true) ⊎ (answers_at p t.current out ≡ true)
+  filed_gave p e = gave_then t m may out t.current p e
 
-  gave_then : (p : Place) → gave_answer p (left_of t ++ out) (Some o) ≡ true → (gave_answer p (all_pending open_track) (Some o) ≡ true) ⊎ (list_any (is_answer_from o p) out ≡ true)
-  gave_then p e = by (has_answered p o.answers) (list_any (is_answer_from o p) (left_of t)) (list_any (is_answer_from o p) out) (less (is_answer_from o p)) (ap (λ (b : Bool). has_answered p o.answers || b) (sym (list_any-append (is_answer_from o p) (left_of t) out)) ∙ e)
+  pub filed_other : (p : Place) → same_place p place.Storage ≡ false → gave_answer p (left_of t ++ out) t.current ≡ true → gave_answer p (all_pending t) t.current ≡ true
+  filed_other p apart e = gave_other t m may place.Storage out gives.from t.current p (turned p apart) e
     where
-      by : (h a b : Bool) → (a ≡ true → list_any (is_answer_from o p) (all_pending open_track) ≡ true) → (h || (a || b)) ≡ true → ((h || list_any (is_answer_from o p) (all_pending open_track)) ≡ true) ⊎ (b ≡ true)
-      by true a b back e = inl refl
-      by false true b back e = inl (back refl)
-      by false false b back e = inr e
-
-  gave_other : (p : Place) → same_place p place.Storage ≡ false → gave_answer p (left_of t ++ out) (Some o) ≡ true → gave_answer p (all_pending open_track) (Some o) ≡ true
-  gave_other p apart e = by (gave_then p e)
-    where
-      second_false : (a b c d : Bool) → b ≡ false → (a && b && c && d) ≡ false
-      second_false true b c d e = ap (λ (x : Bool). x && c && d) e
-      second_false false b c d e = refl
-
       turned : (p : Place) → same_place p place.Storage ≡ false → same_place place.Storage p ≡ false
       turned (place.Processor cpu) e = refl
       turned (place.Memory k) e = refl
       turned place.Storage e = e
       turned place.Manager e = refl
 
-      each : (out : List Message) → AllByRecursion (λ (r : Message). r.from ≡ place.Storage) out → AllByRecursion (λ (r : Message). is_answer_from o p r ≡ false) out
-      each [] all = tt
-      each (r ∷ out) all = (second_false (r.op.0 == o.number.0) (same_place r.from p) (same_place r.to o.by) (answers_to (patch_of o.operation) r.body) (ap (λ (q : Place). same_place q p) all.0 ∙ turned p apart), each out all.1)
-
-      by : (gave_answer p (all_pending open_track) (Some o) ≡ true) ⊎ (list_any (is_answer_from o p) out ≡ true) → gave_answer p (all_pending open_track) (Some o) ≡ true
-      by (inl e) = e
-      by (inr e) = let both : true ≡ false = sym e ∙ none_of (is_answer_from o p) out (each out gives.from) in cc both
-
-  second_then : (j : ℕ) (x : Mem) → j < memory_count t.shape → IsUp lost (secondary_of (memory_count t.shape) j) → slice_get t.mems (secondary_of (memory_count t.shape) j) ≡ Some x → (c : Cell) → second_due (filed_track t o d out) (secondary_of (memory_count t.shape) j) c ≡ true → (second_due open_track (secondary_of (memory_count t.shape) j) c ≡ true) ⊎ (second_part t.owners d.images j x c ≡ new_share (sides_of open_track) j c)
-  second_then j x below up at (Home pid region) due = inl (gave_other (memory (secondary_of (memory_count t.shape) j)) refl due)
-  second_then j x below up at (Areas pid region) due = inl (gave_other (memory (secondary_of (memory_count t.shape) j)) refl due)
-  second_then j x below up at (Page pid vpn) due = by (is_write o.operation) refl due
+  second_then : (j : ℕ) (x : Mem) → j < memory_count t.shape → IsUp lost (secondary_of (memory_count t.shape) j) → slice_get t.mems (secondary_of (memory_count t.shape) j) ≡ Some x → (c : Cell) → second_due (filed_track t d out) (secondary_of (memory_count t.shape) j) c ≡ true → (second_due t (secondary_of (memory_count t.shape) j) c ≡ true) ⊎ (second_part t.owners d.images j x c ≡ new_share (sides_of t) j c)
+  second_then j x below up at (Home pid region) due = inl (filed_other (memory (secondary_of (memory_count t.shape) j)) refl due)
+  second_then j x below up at (Areas pid region) due = inl (filed_other (memory (secondary_of (memory_count t.shape) j)) refl due)
+  second_then j x below up at (Page pid vpn) due = by (is_writing t.current) refl due
     where
-      by : (b : Bool) → is_write o.operation ≡ b → cond b (gave_answer (memory (secondary_of (memory_count t.shape) j)) (left_of t ++ out) (Some o)) (is_storage_true (left_of t) t.healing (Some o) && gave_answer place.Storage (left_of t ++ out) (Some o)) ≡ true → (cond b (gave_answer (memory (secondary_of (memory_count t.shape) j)) (all_pending open_track) (Some o)) (is_storage_true t.net t.healing (Some o) && gave_answer place.Storage (all_pending open_track) (Some o)) ≡ true) ⊎ (second_part t.owners d.images j x (Page pid vpn) ≡ new_share (sides_of open_track) j (Page pid vpn))
-      by true write e = inl (gave_other (memory (secondary_of (memory_count t.shape) j)) refl e)
+      by : (b : Bool) → is_writing t.current ≡ b → cond b (gave_answer (memory (secondary_of (memory_count t.shape) j)) (left_of t ++ out) t.current) (is_storage_true (left_of t) t.healing t.current && gave_answer place.Storage (left_of t ++ out) t.current) ≡ true → (cond b (gave_answer (memory (secondary_of (memory_count t.shape) j)) (all_pending t) t.current) (is_storage_true t.net t.healing t.current && gave_answer place.Storage (all_pending t) t.current) ≡ true) ⊎ (second_part t.owners d.images j x (Page pid vpn) ≡ new_share (sides_of t) j (Page pid vpn))
+      by true write e = inl (filed_other (memory (secondary_of (memory_count t.shape) j)) refl e)
       by false write e = elim (gives.pages_told write e) [
         | inl before ↦ inl before
         | inr new ↦ inr (new j x below up at pid vpn)
       ]
 
-  pend : AllByRecursion (MayPend lost (memory_count t.shape) t.plain (Some o) (healing_move t.healing) t.next) (left_of t)
-  pend = subst (AllByRecursion (MayPend lost (memory_count t.shape) t.plain (Some o) (healing_move t.healing) t.next)) (sym left)
-      (all_taken (MayPend lost (memory_count t.shape) t.plain (Some o) (healing_move t.healing) t.next) (all_pending open_track) (all_pending (taken open_track)) m (whole open_track m may) middle.pending).1
+  pend : AllByRecursion (MayPend lost (memory_count t.shape) t.plain t.current (healing_move t.healing) t.next) (left_of t)
+  pend = subst (AllByRecursion (MayPend lost (memory_count t.shape) t.plain t.current (healing_move t.healing) t.next)) (sym left)
+      (all_taken (MayPend lost (memory_count t.shape) t.plain t.current (healing_move t.healing) t.next) (all_pending t) (all_pending (taken t)) m (whole t m may) middle.pending).1
 
-  pub filed_keeps : HealFits lost (filed_track t o d out) t.healing → Middle lost (filed_track t o d out)
-  filed_keeps heal = storing-keeps lost open_track d file_moment storing middle
+  current_goes : (c : Option Open) → is_waiting t.healing c ≡ true → CurrentFits t c → CurrentFits (filed_track t d out) c
+  current_goes None waits fits = tt
+  current_goes (Some o) waits fits = (fits.0, fits.1, inl (all_sent t m may o waits fits.2))
+
+  pub filed_keeps : HealFits lost (filed_track t d out) t.healing → Middle lost (filed_track t d out)
+  filed_keeps heal = storing-keeps lost t d file_moment storing middle
     where
-      no_open : Some o ≡ None → ⊥
-      no_open e = cc e
-
-      second : (j : ℕ) (x : Mem) → j < memory_count t.shape → IsUp lost (secondary_of (memory_count t.shape) j) → slice_get t.mems (secondary_of (memory_count t.shape) j) ≡ Some x → (c : Cell) → (second_part t.owners d.images j x c ≡ second_part t.owners t.disk.images j x c) ⊎ (second_part t.owners d.images j x c ≡ new_share (sides_of open_track) j c)
+      second : (j : ℕ) (x : Mem) → j < memory_count t.shape → IsUp lost (secondary_of (memory_count t.shape) j) → slice_get t.mems (secondary_of (memory_count t.shape) j) ≡ Some x → (c : Cell) → (second_part t.owners d.images j x c ≡ second_part t.owners t.disk.images j x c) ⊎ (second_part t.owners d.images j x c ≡ new_share (sides_of t) j c)
       second j x below up at (Home pid region) = inl refl
       second j x below up at (Areas pid region) = inl refl
       second j x below up at (Page pid vpn) = gives.pages j x below up at pid vpn
 
-      storing : Storing lost open_track d file_moment
+      storing : Storing lost t d file_moment
       storing = record {
         goes = record {
           plain = refl;
           next = middle.next;
-          current = (fits.0, fits.1, inl (all_sent open_track m may o may.waiting fits.2));
-          pending = all_both (MayPend lost (memory_count t.shape) t.plain (Some o) (healing_move t.healing) t.next) (left_of t) out pend gives.sends;
+          current = current_goes t.current may.waiting middle.current;
+          pending = all_both (MayPend lost (memory_count t.shape) t.plain t.current (healing_move t.healing) t.next) (left_of t) out pend gives.sends;
           waiting = middle.waiting;
           healing = heal;
-          idle = λ closed quiet. absurd (no_open closed);
+          idle = λ closed quiet. absurd (some_waits t m may closed quiet);
         };
         second = second;
         second_told = second_then;
         batches = gives.batches;
         blocks = gives.blocks;
         files = gives.files;
-        told = λ e. elim (gave_then place.Storage e) [
+        told = λ e. elim (filed_gave place.Storage e) [
           | inl before ↦ inl before
           | inr now ↦ inr (gives.told now)
         ];
         images = gives.images;
         form = gives.form;
-        answered = gave_other;
+        answered = filed_other;
       }

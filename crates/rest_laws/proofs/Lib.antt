@@ -21,6 +21,7 @@ pub mod Changed
 pub mod Dropping
 pub mod Copying
 pub mod Ends
+pub mod Bare
 pub mod Delivered
 pub mod Filed
 pub mod Meeting

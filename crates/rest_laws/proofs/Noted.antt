@@ -285,20 +285,20 @@ module _ (lost : Option ℕ) (t : Track) (o : Open) (m : Message) (may : MayDeli
 
   heal_goes : (h : Option Healing) → IsNot (healing_move h) m.op.0 → is_done t.net (healing_move h) ≡ false → HealFits lost open_track h → HealFits lost noted_track h
   heal_goes None not_it undone fits = fits
-  heal_goes (Some h) not_it undone fits =
-      let holds = fits.1 in (
-        fits.0,
-        record {
-          stands = holds.stands;
-          between = between_goes open_track m may (scene_of open_track) holds.stands.x h.memory.0 t.next holds.stands.done h.current h.got holds.stands.ahead not_it holds.between;
-          background = batches_same open_track m may some h.memory.0 ∙ holds.background;
-          pages = holds.pages;
-          forgotten = back_false (gave_answer (memory h.memory.0) (all_pending open_track) (Some o)) (gave_answer (memory h.memory.0) (all_pending (taken open_track)) (Some with_answer)) (gave_before (memory h.memory.0)) holds.forgotten;
-          one_done = λ done. let both : true ≡ false = sym done ∙ sym (done_same t.net (taken_out t.shape.deliveries t.delivered t.net) m (split open_track m may) h.current not_it) ∙ undone in cc both;
-          no_second = holds.no_second;
-          apart = holds.apart;
-        },
-      )
+  heal_goes (Some h) not_it undone fits = (
+    fits.0,
+    λ goes_on. let holds = fits.1 goes_on in record {
+      stands = holds.stands;
+      between = between_goes open_track m may (scene_of open_track) holds.stands.x h.memory.0 t.next holds.stands.done h.current h.got holds.stands.ahead not_it holds.between;
+      background = batches_same open_track m may some h.memory.0 ∙ holds.background;
+      pages = holds.pages;
+      clear = holds.clear;
+      forgotten = back_false (gave_answer (memory h.memory.0) (all_pending open_track) (Some o)) (gave_answer (memory h.memory.0) (all_pending (taken open_track)) (Some with_answer)) (gave_before (memory h.memory.0)) holds.forgotten;
+      one_done = λ done. let both : true ≡ false = sym done ∙ sym (done_same t.net (taken_out t.shape.deliveries t.delivered t.net) m (split open_track m may) h.current not_it) ∙ undone in cc both;
+      no_second = holds.no_second;
+      apart = holds.apart;
+    },
+  )
 
   noted_keeps : Middle lost noted_track
   noted_keeps = shift-keeps lost open_track noted_moment shift middle

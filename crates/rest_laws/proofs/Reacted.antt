@@ -175,22 +175,24 @@ module _ (lost : Option ℕ) (t : Track) (o : Open) (m : Message) (what : Body) 
 
   heal_goes : (h : Option Healing) → IsNot (healing_move h) m.op.0 → is_done t.net (healing_move h) ≡ false → HealFits lost open_track h → HealFits lost owed_track h
   heal_goes None not_it undone fits = fits
-  heal_goes (Some h) not_it undone fits =
-      let holds = fits.1 in
-      let without = between_goes open_track m may (scene_of open_track) holds.stands.x h.memory.0 t.next holds.stands.done h.current h.got holds.stands.ahead not_it holds.between in
-      let with_it = between_more (all_pending (taken open_track)) owing (scene_of open_track) holds.stands.x h.memory.0 t.next holds.stands.done h.current h.got holds.stands.ahead not_it without in (
-        fits.0,
+  heal_goes (Some h) not_it undone fits = (
+    fits.0,
+    λ goes_on.
+        let holds = fits.1 goes_on in
+        let without = between_goes open_track m may (scene_of open_track) holds.stands.x h.memory.0 t.next holds.stands.done h.current h.got holds.stands.ahead not_it holds.between in
+        let with_it = between_more (all_pending (taken open_track)) owing (scene_of open_track) holds.stands.x h.memory.0 t.next holds.stands.done h.current h.got holds.stands.ahead not_it without in
         record {
           stands = holds.stands;
           between = subst (λ (ms : List Message). Between (scene_of open_track) h.memory.0 ms t.next holds.stands.x holds.stands.done h.current h.got holds.stands.ahead) (sym more) with_it;
           background = batches h.memory.0 ∙ holds.background;
           pages = holds.pages;
+          clear = holds.clear;
           forgotten = back_false (gave_answer (memory h.memory.0) (all_pending open_track) (Some o)) (gave_answer (memory h.memory.0) (all_pending owed_track) (Some o)) (gave_before (memory h.memory.0)) holds.forgotten;
           one_done = λ done. let both : true ≡ false = sym done ∙ sym (done_same t.net rest_of m (split open_track m may) h.current not_it) ∙ undone in cc both;
           no_second = holds.no_second;
           apart = holds.apart;
         },
-      )
+  )
 
   owed_keeps : Middle lost owed_track
   owed_keeps = shift-keeps lost open_track owed_moment shift middle

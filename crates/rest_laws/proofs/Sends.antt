@@ -86,20 +86,20 @@ module _ (lost : Option ℕ) (t : Track) (m : Message) (more : List Message) (is
 
   heal_goes : (h : Option Healing) → HealFits lost t h → HealFits lost (record t { net = t.net ++ m ∷ []; owed = more }) h
   heal_goes None fits = fits
-  heal_goes (Some h) fits =
-      let holds = fits.1 in (
-        fits.0,
-        record {
-          stands = holds.stands;
-          between = subst (λ (ms : List Message). Between (scene_of t) h.memory.0 ms t.next holds.stands.x holds.stands.done h.current h.got holds.stands.ahead) (sym same_pending) holds.between;
-          background = ap (background h.memory.0) same_pending ∙ holds.background;
-          pages = holds.pages;
-          forgotten = ap (λ (ms : List Message). gave_answer (memory h.memory.0) ms t.current) same_pending ∙ holds.forgotten;
-          one_done = λ done. back_false (is_done t.net t.current) (is_done (t.net ++ m ∷ []) t.current) (done_before t.net (m ∷ []) t.current) (holds.one_done (done_before t.net (m ∷ []) h.current done));
-          no_second = holds.no_second;
-          apart = holds.apart;
-        },
-      )
+  heal_goes (Some h) fits = (
+    fits.0,
+    λ goes_on. let holds = fits.1 goes_on in record {
+      stands = holds.stands;
+      between = subst (λ (ms : List Message). Between (scene_of t) h.memory.0 ms t.next holds.stands.x holds.stands.done h.current h.got holds.stands.ahead) (sym same_pending) holds.between;
+      background = ap (background h.memory.0) same_pending ∙ holds.background;
+      pages = holds.pages;
+      clear = holds.clear;
+      forgotten = ap (λ (ms : List Message). gave_answer (memory h.memory.0) ms t.current) same_pending ∙ holds.forgotten;
+      one_done = λ done. back_false (is_done t.net t.current) (is_done (t.net ++ m ∷ []) t.current) (done_before t.net (m ∷ []) t.current) (holds.one_done (done_before t.net (m ∷ []) h.current done));
+      no_second = holds.no_second;
+      apart = holds.apart;
+    },
+  )
 
   images_before : (k : ℕ) → images_due (record t { net = t.net ++ m ∷ []; owed = more }) k ≡ true → images_due t k ≡ true
   images_before k due = by (is_writing t.current) due

@@ -4,7 +4,8 @@ use Rattle.std.proofs.lemmas.Bool.{eqb-false}
 use Rattle.std.proofs.lemmas.List.Elements.{filter-append}
 use Rattle.std.proofs.lemmas.List.Folds.{list_any-append}
 use Rattle.std.specs.List.{AllByRecursion, list_any}
-use Rattle.lego_msg.specs.Deliveries.{MayDeliver, is_waiting, taken}
+use Rattle.std.specs.Prelude.{nat_lt}
+use Rattle.lego_msg.specs.Deliveries.{MayDeliver, is_waiting, stops, taken}
 use Rattle.lego_msg.specs.Places.{is_issuer, same_place}
 use Rattle.lego_msg.specs.Plain.{Plain}
 use Rattle.lego_msg.specs.State.{Block, Mem}
@@ -18,7 +19,7 @@ use Rattle.lego_msg.specs.declared.place.Place.{Place}
 use Rattle.lego_msg.specs.declared.place.Place.TheVariants.{Manager, Memory, Processor, Storage}
 use Rattle.lego_rest.specs.Answers.{all_pending, asks_storage_by, gave_answer, heals_target, is_answer_from, is_storage_true}
 use Rattle.lego_rest.specs.Fits.{background, changes_block, is_background}
-use Rattle.lego_rest.specs.Heals.{Between, Scene, count_drains, count_number, is_asked_still}
+use Rattle.lego_rest.specs.Heals.{Between, Scene, count_drains, count_number, is_unheard}
 use Rattle.lego_rest.specs.Pending.{Goes, IsBatch, IsNot, IsOf, IsOfMove, IsOld, Left, OfBackground, OfMove, OfOperation, Pends, Returns}
 use Rattle.lego_rest.specs.Rest.{IsReady}
 use Rattle.rest_laws.proofs.Net.{any-taken, background-taken, takes-one}
@@ -49,7 +50,7 @@ any_less test net net' m split e = any-taken test net net' m split ∙ by (test 
     by true b e = refl
     by false b e = e
 
-count_both : (number : ℕ) (xs ys : List Message) → count_number number (xs ++ ys) ≡ count_number number xs + count_number number ys
+pub count_both : (number : ℕ) (xs ys : List Message) → count_number number (xs ++ ys) ≡ count_number number xs + count_number number ys
 count_both number [] ys = by (count_number number ys)
   where
     by : (k : ℕ) → k ≡ 0 + k
@@ -150,12 +151,11 @@ module _ (t : Track) (m : Message) (may : MayDeliver t m) where
   between_goes w x c next done None got ahead none all = all
   between_goes w x c next done (Some o) got [] none all = all
   between_goes w x c next done (Some o) got (move ∷ ahead) none all =
-      let fits = all.2 in
-      let asked : is_asked_still o.number.0 (all_pending t) ≡ is_asked_still o.number.0 (all_pending (taken t)) =
-      any_same (λ (m : Message). m.op.0 == o.number.0 && not (same_place m.to place.Manager)) (all_pending t) (all_pending (taken t)) m whole (ap (λ (b : Bool). b && not (same_place m.to place.Manager)) none) in
+      let fits = all.1 in
+      let unheard : list_any (is_unheard o.number.0) (all_pending t) ≡ list_any (is_unheard o.number.0) (all_pending (taken t)) =
+      any_same (is_unheard o.number.0) (all_pending t) (all_pending (taken t)) m whole (ap (λ (b : Bool). b && (not (same_place m.to place.Manager) || stops m.body)) none) in
       let same : count_number o.number.0 (all_pending t) ≡ count_number o.number.0 (all_pending (taken t)) = count_same o.number.0 (all_pending t) (all_pending (taken t)) m whole none in (
         all.0,
-        all.1,
         record {
           to = fits.to;
           told = fits.told;
@@ -171,8 +171,7 @@ module _ (t : Track) (m : Message) (may : MayDeliver t m) where
           answers = fits.answers;
           answering = (all_taken _ (all_pending t) (all_pending (taken t)) m whole fits.answering).1;
         },
-        λ e. all.3 (asked ∙ e),
-        λ e. all.4 (asked ∙ e),
+        λ e. all.2 (ap (λ (b : Bool). b || nat_lt 0 (count_drains o.number.0 w.mems)) unheard ∙ e),
       )
 
   pub changes_less : (b : Block) → list_any (λ (m : Message). changes_block b m.body) (all_pending t) ≡ false → list_any (λ (m : Message). changes_block b m.body) (all_pending (taken t)) ≡ false
@@ -192,14 +191,13 @@ module _ (pending : List Message) (r : Message) where
   between_more w x c next done None got ahead none all = all
   between_more w x c next done (Some o) got [] none all = all
   between_more w x c next done (Some o) got (move ∷ ahead) none all =
-      let fits = all.2 in
-      let asked : is_asked_still o.number.0 (pending ++ r ∷ []) ≡ is_asked_still o.number.0 pending =
-      any_more (λ (m : Message). m.op.0 == o.number.0 && not (same_place m.to place.Manager)) (ap (λ (b : Bool). b && not (same_place r.to place.Manager)) none) in
+      let fits = all.1 in
+      let unheard : list_any (is_unheard o.number.0) (pending ++ r ∷ []) ≡ list_any (is_unheard o.number.0) pending =
+      any_more (is_unheard o.number.0) (ap (λ (b : Bool). b && (not (same_place r.to place.Manager) || stops r.body)) none) in
       let zero : cond (r.op.0 == o.number.0) 1 0 ≡ 0 = ap (λ (b : Bool). cond b 1 0) none in
       let both : count_number o.number.0 (pending ++ r ∷ []) ≡ count_number o.number.0 pending + (cond (r.op.0 == o.number.0) 1 0 + 0) = count_both o.number.0 pending (r ∷ []) in
       let same : count_number o.number.0 (pending ++ r ∷ []) ≡ count_number o.number.0 pending = by (count_number o.number.0 (pending ++ r ∷ [])) (count_number o.number.0 pending) (cond (r.op.0 == o.number.0) 1 0) both zero in (
         all.0,
-        all.1,
         record {
           to = fits.to;
           told = fits.told;
@@ -215,8 +213,7 @@ module _ (pending : List Message) (r : Message) where
           answers = fits.answers;
           answering = all_both _ pending (r ∷ []) fits.answering (λ number. absurd (eqb-false r.op.0 o.number.0 none number), tt);
         },
-        λ e. all.3 (sym asked ∙ e),
-        λ e. all.4 (sym asked ∙ e),
+        λ e. all.2 (ap (λ (b : Bool). b || nat_lt 0 (count_drains o.number.0 w.mems)) (sym unheard) ∙ e),
       )
     where
       by : (a b one : ℕ) → a ≡ b + (one + 0) → one ≡ 0 → a ≡ b

@@ -33,6 +33,7 @@ use Rattle.rest_laws.proofs.Truth.{both_true, some_none}
 use Rattle.rest_laws.proofs.kinds.Asking.{owner_owns}
 use Rattle.rest_laws.proofs.kinds.Cells.{agreed}
 use Rattle.rest_laws.proofs.kinds.Copied.{areas_copied_in, copied_fit, copied_form, copied_rise, pages_copied_in, plain_areas_in, plain_pages_in}
+use Rattle.rest_laws.proofs.Bare.{calm_on, clear_images}
 use Rattle.rest_laws.proofs.kinds.Images.{clear_of, imaged}
 use Rattle.rest_laws.proofs.kinds.Kind.{KindRows, MemoryGives, StorageGives, here, rows_of, there}
 use Rattle.rest_laws.proofs.kinds.Twice.{first_two, is_guarded, own_stays, seconds_stay}
@@ -190,7 +191,7 @@ module _ (lost : Option ℕ) (t : Track) (o : Open) (parent child : Pid) (region
 
     at_storage : StorageGives lost t copying image_message
     at_storage reaches = imaged lost t copying image_message reaches concerned (copied_pages parent.0 child regions t.disk.images)
-        (ap (is_among place.Storage) reaches.middle.current.0.targets ∙ third (memory second) (memory owner.0)) (inl refl) (files_stay parent.0 child.0 regions t.plain) (λ k s at. reaches.middle.current.1 k s at) same new absent (copied_fit parent.0 child regions t.disk.images reaches.middle.disk.form)
+        (ap (is_among place.Storage) reaches.middle.current.0.targets ∙ third (memory second) (memory owner.0)) (inl refl) (files_stay parent.0 child.0 regions t.plain) (λ k s at. reaches.middle.current.1 k s at) same new bare absent (copied_fit parent.0 child regions t.disk.images reaches.middle.disk.form)
       where
         found : (p v : ℕ) → page_in (copied_pages parent.0 child regions t.disk.images) p v ≡ cond (child.0 == p && is_region_in (v / 512) regions) (page_in t.disk.images parent.0 v) (page_in t.disk.images p v)
         found p v = pages_copied_in parent.0 child apart regions t.disk.images p v reaches.middle.disk.form
@@ -203,6 +204,26 @@ module _ (lost : Option ℕ) (t : Track) (o : Open) (parent child : Pid) (region
             by a true false e = refl
             by true true true e = cc e
             by false true true e = cc e
+
+        bare : (j : ℕ) → j < memory_count t.shape → lost ≡ Some (secondary_of (memory_count t.shape) j) → (p v : ℕ) → owns t.owners j p (v / 512) ≡ true → (page_in (copied_pages parent.0 child regions t.disk.images) p v ≡ page_in t.disk.images p v) ⊎ (page_in (copied_pages parent.0 child regions t.disk.images) p v ≡ after.page p v)
+        bare j less is p v mine = by (child.0 == p && is_region_in (v / 512) regions) refl
+          where
+            by : (b : Bool) → (child.0 == p && is_region_in (v / 512) regions) ≡ b → (page_in (copied_pages parent.0 child regions t.disk.images) p v ≡ page_in t.disk.images p v) ⊎ (page_in (copied_pages parent.0 child regions t.disk.images) p v ≡ after.page p v)
+            by false other = inl (found p v ∙ ap (λ (b : Bool). cond b (page_in t.disk.images parent.0 v) (page_in t.disk.images p v)) other)
+            by true this =
+                let both = both_true (child.0 == p) (is_region_in (v / 512) regions) this in
+                let owners_ = copy_owned t.owners parent.0 child.0 owner regions (v / 512) fits both.1 in
+                let of_parent : owns t.owners j parent.0 (v / 512) ≡ true = ap (is_owner j) (owners_.0 ∙ sym owners_.1) ∙ ap (λ (q : ℕ). owns t.owners j q (v / 512)) (eqb-true child.0 p both.0) ∙ mine in
+                inr (found p v ∙ ap (λ (b : Bool). cond b (page_in t.disk.images parent.0 v) (page_in t.disk.images p v)) this
+                ∙ source of_parent (clear_images lost (record t { current = Some copying }) j (calm_on (record t { current = Some copying }) reaches.may.calm) less is reaches.middle parent.0 v (concerned_parent both.1) of_parent)
+                ∙ sym (plain_pages_in parent.0 child.0 apart regions t.plain p v ∙ ap (λ (b : Bool). cond b (t.plain.page parent.0 v) (t.plain.page p v)) this))
+              where
+                concerned_parent : is_region_in (v / 512) regions ≡ true → concerned parent.0 v ≡ true
+                concerned_parent inside = (λ i. (eq-eqb parent.0 parent.0 refl i || child.0 == parent.0) && inside i)
+
+                source : owns t.owners j parent.0 (v / 512) ≡ true → IsEither (sides_of (record t { current = Some copying })) j (Page parent.0 v) (page_in t.disk.images parent.0 v) → page_in t.disk.images parent.0 v ≡ t.plain.page parent.0 v
+                source of_parent (inl e) = e ∙ ap (λ (b : Bool). cond b (t.plain.page parent.0 v) None) of_parent
+                source of_parent (inr e) = e ∙ ap (λ (b : Bool). cond b (after.page parent.0 v) None) of_parent ∙ parent_pages v
 
         absent : (p v : ℕ) → owner_of t.owners p (v / 512) ≡ None → page_in (copied_pages parent.0 child regions t.disk.images) p v ≡ None
         absent p v none = found p v ∙ by (child.0 == p && is_region_in (v / 512) regions) refl

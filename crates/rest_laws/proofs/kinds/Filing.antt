@@ -82,6 +82,8 @@ module _ (lost : Option ℕ) (t : Track) (o : Open) (m : Message) (reaches : Rea
     from = (from, tt);
     pages = λ j x below up at pid vpn. inl refl;
     pages_told = λ unwritten due. inr (λ j x below up at pid vpn. agreed _ _ _ (same_pages j pid vpn) ((reaches.middle.seconds j x below up at).part.either (Page pid vpn)));
+    bare = λ j less is pid vpn mine either. either;
+    background = λ j is. reached_background r (subst (λ (k : _). 0 < k.0) (sym number) reached_some) j;
     batches = λ j s up at. batch_stays (all_pending t) (left_of t ++ r ∷ []) t.disk.images s (reached_background r (subst (λ (k : _). 0 < k.0) (sym number) reached_some) s.id) (reaches.middle.memories j s up at).batch;
     blocks = λ j s up at. every (block_after j) s.blocks (reaches.middle.memories j s up at).blocks;
     files = either;

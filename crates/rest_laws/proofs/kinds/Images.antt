@@ -17,7 +17,7 @@ use Rattle.lego_rest.specs.Fits.{BatchFits, HasBatch, PagesFit, background, batc
 use Rattle.lego_rest.specs.Parts.{Page, new_share, owns, second_part, sides_of}
 use Rattle.lego_rest.specs.Pending.{IsUp, Says}
 use Rattle.rest_laws.proofs.Delivered.{left_of, of_first}
-use Rattle.rest_laws.proofs.Filed.{FileGives}
+use Rattle.rest_laws.proofs.Filed.{FileGives, stays_either}
 use Rattle.rest_laws.proofs.Lookup.{page-overlaid}
 use Rattle.rest_laws.proofs.Opened.{every}
 use Rattle.rest_laws.proofs.Pages.{untouched}
@@ -68,13 +68,16 @@ module _ (lost : Option ℕ) (t : Track) (o : Open) (m : Message) (reaches : Rea
       ((k : ℕ) (s : Mem) → slice_get t.mems k ≡ Some s → AllByRecursion (λ (p : Patch). test p.pid.0 p.vpn.0 ≡ false) s.log) →
       ((pid vpn : ℕ) → test pid vpn ≡ false → page_in after pid vpn ≡ page_in t.disk.images pid vpn) →
       ((j : ℕ) (x : Mem) → j < memory_count t.shape → IsUp lost (secondary_of (memory_count t.shape) j) → slice_get t.mems (secondary_of (memory_count t.shape) j) ≡ Some x → (pid vpn : ℕ) → second_part t.owners after j x (Page pid vpn) ≡ new_share (sides_of (record t { current = Some o })) j (Page pid vpn)) →
+      ((j : ℕ) → j < memory_count t.shape → lost ≡ Some (secondary_of (memory_count t.shape) j) → (pid vpn : ℕ) → owns t.owners j pid (vpn / 512) ≡ true → (page_in after pid vpn ≡ page_in t.disk.images pid vpn) ⊎ (page_in after pid vpn ≡ (effect o.operation t.plain).page pid vpn)) →
       ((pid vpn : ℕ) → owner_of t.owners pid (vpn / 512) ≡ None → page_in after pid vpn ≡ None) → PagesFit after →
       FileGives lost t o (record { images = after; files = t.disk.files }) (done ∷ [])
-  imaged test after target says same_files clear same new absent form = record {
+  imaged test after target says same_files clear same new bare absent form = record {
     sends = (issuer_answer lost t o m reaches body.Done target says, tt);
     from = (refl, tt);
     pages = λ j x below up at pid vpn. inr (new j x below up at pid vpn);
     pages_told = λ unwritten due. inr new;
+    bare = λ j less is pid vpn mine. stays_either (sides_of (record t { current = Some o })) j pid vpn (page_in t.disk.images pid vpn) (page_in after pid vpn) mine (bare j less is pid vpn mine);
+    background = λ j is. reached_background lost t o m reaches done some j;
     batches = λ j s up at. batch_after j s at (reaches.middle.memories j s up at).batch;
     blocks = λ j s up at. every (λ b fit. record {
       place = fit.place;
@@ -116,9 +119,17 @@ module _ (lost : Option ℕ) (t : Track) (o : Open) (m : Message) (reaches : Rea
       FileGives lost t o (record { images = without page_key test t.disk.images; files = t.disk.files }) (done ∷ [])
   images_gone test target says same_files clear page = imaged (λ pid vpn. test (key_at pid vpn)) (without page_key test t.disk.images) target says same_files clear
       (λ pid vpn other. page_without test t.disk.images pid vpn ∙ ap (λ (b : Bool). cond b None (page_in t.disk.images pid vpn)) other)
-      new (λ pid vpn none. page_without test t.disk.images pid vpn ∙ still_none (test (key_at pid vpn)) (page_in t.disk.images pid vpn) (reaches.middle.disk.images pid vpn none))
+      new (λ j less is pid vpn mine. bared pid vpn)
+      (λ pid vpn none. page_without test t.disk.images pid vpn ∙ still_none (test (key_at pid vpn)) (page_in t.disk.images pid vpn) (reaches.middle.disk.images pid vpn none))
       (pages_left_fit test t.disk.images reaches.middle.disk.form)
     where
+      bared : (pid vpn : ℕ) → (page_in (without page_key test t.disk.images) pid vpn ≡ page_in t.disk.images pid vpn) ⊎ (page_in (without page_key test t.disk.images) pid vpn ≡ (effect o.operation t.plain).page pid vpn)
+      bared pid vpn = by (test (key_at pid vpn)) refl
+        where
+          by : (b : Bool) → test (key_at pid vpn) ≡ b → (page_in (without page_key test t.disk.images) pid vpn ≡ page_in t.disk.images pid vpn) ⊎ (page_in (without page_key test t.disk.images) pid vpn ≡ (effect o.operation t.plain).page pid vpn)
+          by true e = inr (page_without test t.disk.images pid vpn ∙ ap (λ (b : Bool). cond b None (page_in t.disk.images pid vpn)) e ∙ sym (page pid vpn ∙ ap (λ (b : Bool). cond b None (t.plain.page pid vpn)) e))
+          by false e = inl (page_without test t.disk.images pid vpn ∙ ap (λ (b : Bool). cond b None (page_in t.disk.images pid vpn)) e)
+
       still_none : (b : Bool) (page : Option (List ℕ)) → page ≡ None → cond b None page ≡ None
       still_none true page e = refl
       still_none false page e = e

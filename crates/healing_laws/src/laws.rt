@@ -1,0 +1,59 @@
+//! Laws of crashes and healing: each is the contract of a function.
+
+ghost use Rattle.healing_laws.specs.Beside.{DeliveriesBeside};
+ghost use Rattle.healing_laws.specs.Moving.{DeliveriesKeep, HealingEnds, MoveBegins, MoveEnds, OperationEndsBeside};
+ghost use Rattle.healing_laws.specs.Running.{EveryEventKeeps, EveryListEndsAtRest, EveryListKeeps, LeadsBackThroughCrashes};
+
+/// While a memory is healed, every delivery of a message that isn't the move's keeps the relation, whatever operation is
+/// open.
+pub fn deliveries_beside_a_healing_keep_the_relation()
+    ensures { DeliveriesBeside }
+{}
+
+/// Every delivery keeps the relation, to whomever and whatever is healed: also that of a move's message, and of its answer.
+pub fn every_delivery_keeps_the_relation()
+    ensures { DeliveriesKeep }
+{}
+
+/// A move of a healing begins in the relation, with what the move before it was answered.
+pub fn moves_begin_in_the_relation()
+    ensures { MoveBegins }
+{}
+
+/// A move that is complete, and isn't the last, has done its part, and the next one may begin.
+pub fn moves_end_in_the_relation()
+    ensures { MoveEnds }
+{}
+
+/// Once the last move is complete nothing is lost any more: the memory holds its share again, for its own sake and as a
+/// secondary, and the open operation is sent again.
+pub fn healings_end_in_the_relation()
+    ensures { HealingEnds }
+{}
+
+/// An operation that is complete while a memory is healed ends in the relation with that memory lost.
+pub fn operations_end_beside_a_healing()
+    ensures { OperationEndsBeside }
+{}
+
+/// Every event keeps the relation, crashes and those of a healing included, where an operation that begins with it is
+/// granted.
+pub fn every_event_keeps_the_relation_through_crashes()
+    ensures { EveryEventKeeps }
+{}
+
+/// Every legal list leads from rest to the relation, where each operation is granted as it begins.
+pub fn every_list_keeps_the_relation_through_crashes()
+    ensures { EveryListKeeps }
+{}
+
+/// Such a list ends at rest where nothing is open or healing then, and nothing was refused.
+pub fn every_list_ends_at_rest()
+    ensures { EveryListEndsAtRest }
+{}
+
+/// An operation that is granted at rest leads back to rest through every legal list, whatever crashes on the way; its effect
+/// on the plain map is all that is new.
+pub fn operations_lead_back_through_crashes()
+    ensures { LeadsBackThroughCrashes }
+{}

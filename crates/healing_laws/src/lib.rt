@@ -1,0 +1,18 @@
+//! Laws by which the relation between the components and the plain map is kept through crashes: while a memory is healed,
+//! by every event, and by every legal list of events.
+//!
+//! `specs/Beside` says it of deliveries beside the moves of a healing, `specs/Moving` of the moves themselves, from the
+//! first to the last, and of what is complete meanwhile; `specs/Running` of every event and of whole lists. In `proofs`,
+//! `Passing` and `MoveSteps` say what a component must leave alone, or do, so that the healing goes on, whichever message
+//! it gets.
+#![tactic(auto)]
+
+mod laws;
+
+pub use laws::{
+    deliveries_beside_a_healing_keep_the_relation, every_delivery_keeps_the_relation,
+    every_event_keeps_the_relation_through_crashes, every_list_ends_at_rest,
+    every_list_keeps_the_relation_through_crashes, healings_end_in_the_relation,
+    moves_begin_in_the_relation, moves_end_in_the_relation, operations_end_beside_a_healing,
+    operations_lead_back_through_crashes,
+};
