@@ -9,3 +9,4 @@ pub mod Closing
 pub mod Closed
 pub mod Deaths
 pub mod Forking
+pub mod Waiting

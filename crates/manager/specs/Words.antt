@@ -1,6 +1,7 @@
 -- Words of the calls' contracts.
-use Rattle.std.specs.Prelude.{ℕ, Bool, true, false, Result, Ok, Err, if◌then◌else◌, List, [], ◌∷◌, Option, Some, None}
+use Rattle.std.specs.Prelude.{◌≡◌, ℕ, Bool, true, false, Result, Ok, Err, if◌then◌else◌, List, [], ◌∷◌, Option, Some, None, option_map, slice_get}
 use Rattle.lego_base.specs.declared.ids.FileNo.{FileNo}
+use Rattle.lego_base.specs.declared.ids.Pid.{Pid}
 use Rattle.kernel_objects.specs.declared.descriptor.Description.{Description}
 use Rattle.kernel_objects.specs.declared.descriptor.FdEntry.{FdEntry}
 use Rattle.kernel_objects.specs.declared.descriptor.Object.{Object}
@@ -10,7 +11,8 @@ use Rattle.linux_model.specs.Descriptors.{Open}
 use Rattle.linux_model.specs.Effects.{Effect, FreesFile, Reaps}
 use Rattle.linux_model.specs.Managed.{Managed, managed_after}
 use Rattle.linux_model.specs.Processes.{process, is_live, has_file}
-use Rattle.proc_table.specs.Entries.{Table}
+use Rattle.proc_table.specs.Entries.{Table, proc_of}
+use Rattle.proc_table.specs.declared.table.Proc.{Proc}
 use Rattle.proc_table.specs.declared.table.Reaped.{Reaped}
 use Rattle.proc_table.specs.declared.table.Reaped.TheVariants.{Child}
 use Rattle.manager.specs.declared.manager.Opened.{Opened}
@@ -52,3 +54,7 @@ abbrev pub is_too_many : {X : Type 0} → Result X SpawnFault → Bool
 is_too_many (Ok x) = false
 is_too_many (Err TooMany) = true
 is_too_many (Err NoMemory) = false
+
+-- the process at a place has this pid, and this is known of it
+abbrev pub KnownAt : ℕ → Pid → Proc → Managed → Type 0
+KnownAt place pid known m = option_map {U = Pid × Proc} (λ p. (record { 0 = p.pid }, proc_of p)) (slice_get m.procs place) ≡ Some (pid, known)

@@ -1,5 +1,7 @@
 //! The manager.
 
+mod ready;
+
 ghost use Rattle.std.specs.Prelude.{◌≡◌, ◌==◌, ◌+◌, ◌-◌, ◌^◌, ◌<◌, ◌≤◌, ◌++◌, ℕ, [], ◌∷◌, true, false, Some, None, drop, filter, is_some, length, min, nat_le, nat_lt, option_and_then, option_map, slice_index, slice_set, take, IfOk, IfSome, OnErr, OnOk};
 ghost use Rattle.fd_table.specs.declared.fds.TheConstants.{DESCRIPTORS};
 ghost use Rattle.kernel_objects.specs.Slots.{held, holds_some, lowest_free, slot};
