@@ -17,7 +17,7 @@ some_more false c n e = ap (ltb 0) (omega arith) ∙ e
 
 module _ {X : Type 0} where
   -- the lowest free slot, or the table's length
-  abbrev first_free : List (Option X) → ℕ
+  abbrev pub first_free : List (Option X) → ℕ
   first_free [] = 0
   first_free (None ∷ slots) = 0
   first_free (Some x ∷ slots) = suc (first_free slots)
@@ -29,7 +29,7 @@ module _ {X : Type 0} where
       let count : n + length (Some x ∷ slots) ≡ n + 1 + length slots = omega arith in
       ap (unwrap_or (free_from 0 (n + 1) slots)) count ∙ free_first slots (n + 1) ∙ (omega arith)
 
-  next_first : (slots : List (Option X)) → next_slot slots ≡ first_free slots
+  pub next_first : (slots : List (Option X)) → next_slot slots ≡ first_free slots
   next_first slots =
       let count : length slots ≡ 0 + length slots = omega arith in
       ap (unwrap_or (free_from 0 0 slots)) count ∙ free_first slots 0 ∙ (omega arith)

@@ -10,3 +10,5 @@ pub mod Closed
 pub mod Deaths
 pub mod Forking
 pub mod Waiting
+pub mod Making
+pub mod Starting

@@ -106,13 +106,14 @@ opened t d p refs readers' writers' pid fd x cloexec alive lt free pipe more rea
     there_of n (suc ends) e some = pipe n (omega (arith, e))
 
 -- a new description, and each pipe still has an end
-pub opened_ended : (d : DescTable) (p : PipeTable) (x : Description) (pipes : List (Option (List ℕ))) (refs readers' writers' : List ℕ) → pipes ≡ p.pipes → Ended d p
-    → Ended (record { descs = with_next x d.descs; refs = refs }) (record { pipes = pipes; readers = readers'; writers = writers' })
-opened_ended d p x pipes refs readers' writers' same ended = λ n there.
+pub opened_ended : (d : DescTable) (p : PipeTable) (d' : DescTable) (p' : PipeTable) (x : Description) → d'.descs ≡ with_next x d.descs → p'.pipes ≡ p.pipes → Ended d p → Ended d' p'
+opened_ended d p d' p' x descs pipes ended = λ n there.
+    let rd = ap (readers n) descs in
+    let wd = ap (writers n) descs in
     let r = reads_more n x d.descs in
     let w = writes_more n x d.descs in
-    let old = ended n (ap (λ (s : List (Option (List ℕ))). is_some (slot s n)) (sym same) ∙ there) in
-    omega (arith, r, w, old)
+    let old = ended n (ap (λ (s : List (Option (List ℕ))). is_some (slot s n)) (sym pipes) ∙ there) in
+    omega (arith, rd, wd, r, w, old)
 
 -- the tables that come of it
 abbrev pub opened_table : Table → ℕ → ℕ → ℕ → Bool → Table
@@ -133,17 +134,3 @@ opened_counted t d p t' d' p' pid fd desc x cloexec alive lt free pipe at table 
     (subst (λ (d'' : DescTable). Counted (opened_table t pid fd (next_slot d.descs) cloexec) d'' p') (sym is_d)
     (subst (λ (p'' : PipeTable). Counted (opened_table t pid fd (next_slot d.descs) cloexec) (record { descs = with_next x d.descs; refs = d'.refs }) p'') (sym is_p)
     (opened t d p d'.refs p'.readers p'.writers pid fd x cloexec alive lt free pipe (λ n. more n ∙ ap (λ (m : ℕ). slice_index d.refs n + one_if (m == n)) at) reading writing c)))
-
-pub opened_sound : (t : Table) (d : DescTable) (p : PipeTable) (t' : Table) (d' : DescTable) (p' : PipeTable) (pid fd desc : ℕ) (x : Description) (cloexec : Bool)
-    → picks (λ q. is_live q.state) (process t.procs pid) ≡ true → fd < 64 → slot (fds_of (process t.procs pid)) fd ≡ None
-    → ((n : ℕ) → 0 < one_if (is_reading_end n x.object) + one_if (is_writing_end n x.object) → is_some (slot p.pipes n) ≡ true)
-    → desc ≡ next_slot d.descs → t' ≡ opened_table t pid fd desc cloexec → d'.descs ≡ with_next x d.descs → OneMore desc d.refs d'.refs → p'.pipes ≡ p.pipes
-    → ((n : ℕ) → slice_index p'.readers n ≡ slice_index p.readers n + one_if (is_reading_end n x.object))
-    → ((n : ℕ) → slice_index p'.writers n ≡ slice_index p.writers n + one_if (is_writing_end n x.object))
-    → Sound t d p → Sound t' d' p'
-opened_sound t d p t' d' p' pid fd desc x cloexec alive lt free pipe at table descs more pipes reading writing s =
-    let is_d : d' ≡ record { descs = with_next x d.descs; refs = d'.refs } = λ i. record { descs = descs i; refs = d'.refs } in
-    record {
-      counted = opened_counted t d p t' d' p' pid fd desc x cloexec alive lt free pipe at table descs more pipes reading writing s.counted;
-      ended = subst (λ (d'' : DescTable). Ended d'' p') (sym is_d) (opened_ended d p x p'.pipes d'.refs p'.readers p'.writers pipes s.ended);
-    }

@@ -4,27 +4,34 @@ mod ready;
 
 ghost use Rattle.std.specs.Prelude.{◌≡◌, ◌==◌, ◌+◌, ◌-◌, ◌^◌, ◌<◌, ◌≤◌, ◌++◌, ℕ, [], ◌∷◌, true, false, Some, None, drop, filter, is_some, length, min, nat_le, nat_lt, option_and_then, option_map, slice_index, slice_set, take, IfOk, IfSome, OnErr, OnOk};
 ghost use Rattle.fd_table.specs.declared.fds.TheConstants.{DESCRIPTORS};
-ghost use Rattle.kernel_objects.specs.Slots.{held, holds_some, lowest_free, slot};
+ghost use Rattle.kernel_objects.specs.Slots.{held, holds_some, lowest_free, next_slot, picks, slot, with_next};
 ghost use Rattle.linux_model.specs.Descriptors.{closing, opened};
-ghost use Rattle.linux_model.specs.Effects.{bytes_in_pipe, Breaks, Closes, Dies, Forks, Goes, Keeps, Opens, PutsPipe, Returns, Seeks, Shares, Takes, TakesPipe};
-ghost use Rattle.linux_model.specs.Limits.{DESCRIPTIONS, PIPE_BYTES, PROCESSES};
-ghost use Rattle.linux_model.specs.Managed.{managed_after, managed_in, with_managed};
-ghost use Rattle.linux_model.specs.Processes.{fds_of, has_file, has_reader, has_writer, is_live, process};
+ghost use Rattle.linux_model.specs.Effects.{at_fd, bytes_in_pipe, Breaks, Closes, Dies, Forks, Goes, Keeps, Opens, PutsPipe, Returns, Seeks, Shares, Starts, Takes, TakesPipe};
+ghost use Rattle.linux_model.specs.Limits.{has, DESCRIPTIONS, PIPE_BYTES, PROCESSES};
+ghost use Rattle.linux_model.specs.Managed.{managed_after, managed_after_all, managed_in, with_managed};
+ghost use Rattle.linux_model.specs.Processes.{at_pid, fds_of, first_process, has_file, has_reader, has_writer, is_live, no_descriptors, process};
 ghost use Rattle.linux_model.specs.State.{Kernel, Process, unbooted};
 ghost use Rattle.proc_table.specs.Entries.{child_for, proc_of};
+ghost use Rattle.kernel_objects.specs.declared.descriptor.Object.TheVariants.{Regular};
+ghost use Rattle.manager.specs.Sound.{Counted};
 ghost use Rattle.manager.specs.Tables.{PipeThere};
-ghost use Rattle.manager.specs.Words.{after_reaped, entry_of, file_left, frees, is_alive, is_too_many, open_of, table_of};
+ghost use Rattle.manager.specs.Words.{after_reaped, entry_of, fd_for_one, fds_for_two, file_left, frees, is_alive, is_too_many, limit_of, open_of, pipe_effects, start_effects, stream_effects, table_of};
 
 use crate::descs::Descs;
-use crate::fault::SpawnFault;
+use crate::fault::{FdFault, SpawnFault};
 use crate::input::Input;
 use crate::pipes::{PipeState, Pipes};
-use kernel_objects::{Brk, Description, FdEntry, Object, Waiting};
+use fd_table::Fds;
+use kernel_objects::{Brk, Description, FdEntry, Object, Stream, Waiting};
 use lego_base::{Bytes, Exit, FileNo, NoMemory, Pid};
 use proc_table::{Proc, Procs, Reaped};
 use rv64_step::Cpu;
 use std::alloc::Global;
 use std::marker::Model;
+
+// Flags of open(2).
+const O_WRONLY: u32 = 1;
+const O_CLOEXEC: u32 = 0x80000;
 
 /// What a descriptor is open on.
 #[derive(Clone, Copy, Debug, PartialEq, Eq)]
@@ -308,12 +315,100 @@ impl Manager {
             offset: 0,
             flags,
         };
-        let entry = FdEntry {
-            desc: self.descs.add(description),
+        open_in(
+            &mut self.procs,
+            &mut self.descs,
+            &mut self.pipes,
+            pid,
+            fd,
+            description,
             cloexec,
+        );
+    }
+
+    /// A new description of a file, for the lowest free descriptor of a process that lives, as open(2) makes it.
+    pub fn add_file(&mut self, pid: Pid, file: FileNo, flags: u32) -> Result<u32, FdFault>
+        requires { is_alive pid.0 self.old ≡ true }
+        ensures fd { result ≡ fd_for_one pid.0 self.old }
+        ensures ok { IfOk result (λ fd. self.new ≡ managed_after (Opens pid.0 fd (Regular file) flags (has flags O_CLOEXEC)) self.old) }
+        ensures err { OnErr result (self.new ≡ self.old) }
+    {
+        let fd = self.procs.lowest_free(pid, 0).ok_or(FdFault::Emfile)?;
+        if self.descs.room() < 1 {
+            return Err(FdFault::Enfile);
+        }
+        let cloexec = flags & O_CLOEXEC == O_CLOEXEC;
+        self.open(pid, fd, Object::Regular(file), flags, cloexec);
+        Ok(fd)
+    }
+
+    /// A new pipe, as pipe2(2) makes it: the two lowest free descriptors of a process that lives, the one for reading first.
+    pub fn add_pipe(&mut self, alloc: Global, pid: Pid, cloexec: bool) -> Result<(u32, u32), FdFault>
+        requires { is_alive pid.0 self.old ≡ true }
+        ensures fds { IfOk result (λ fds. fds_for_two pid.0 self.old ≡ Ok fds) }
+        ensures ok { IfOk result (λ fds. self.new ≡ managed_after_all (pipe_effects pid.0 fds cloexec self.old) self.old) }
+        ensures limit { limit_of result ≡ limit_of (fds_for_two pid.0 self.old) }
+        ensures err { OnErr result (self.new ≡ self.old) }
+    {
+        let (reading, writing) = self.two_free(pid)?;
+        self.make_pipe(alloc, pid, reading, writing, cloexec)?;
+        Ok((reading, writing))
+    }
+
+    // The two lowest free descriptors, where as many descriptions are left.
+    fn two_free(&self, pid: Pid) -> Result<(u32, u32), FdFault>
+        ensures fds { result ≡ fds_for_two pid.0 self.now }
+        ensures within { IfOk result (λ fds. fds.1 < DESCRIPTORS) }
+    {
+        let reading = self.procs.lowest_free(pid, 0).ok_or(FdFault::Emfile)?;
+        let writing = self.procs.lowest_free(pid, reading + 1).ok_or(FdFault::Emfile)?;
+        if self.descs.room() < 2 {
+            return Err(FdFault::Enfile);
+        }
+        Ok((reading, writing))
+    }
+
+    // A pipe with its ends at two free descriptors.
+    fn make_pipe(&mut self, alloc: Global, pid: Pid, reading: u32, writing: u32, cloexec: bool) -> Result<(), NoMemory>
+        requires alive { is_alive pid.0 self.old ≡ true }
+        requires reading { slot (fds_of (process self.old.procs pid.0)) reading ≡ None }
+        requires writing { slot (fds_of (process self.old.procs pid.0)) writing ≡ None }
+        requires order { reading < writing }
+        requires within { writing < DESCRIPTORS }
+        requires room { length (held self.old.descs) + 2 ≤ DESCRIPTIONS }
+        ensures ok { OnOk result (self.new ≡ managed_after_all (pipe_effects pid.0 (reading, writing) cloexec self.old) self.old) }
+        ensures err { OnErr result (self.new ≡ self.old) }
+    {
+        let pipe = self.pipes.add(alloc)?;
+        let reads = Description {
+            object: Object::PipeRead(pipe),
+            offset: 0,
+            flags: 0,
         };
-        self.pipes.begin(object);
-        self.procs.set_fd(pid, fd, Some(entry));
+        let writes = Description {
+            object: Object::PipeWrite(pipe),
+            offset: 0,
+            flags: O_WRONLY,
+        };
+        open_in(
+            &mut self.procs,
+            &mut self.descs,
+            &mut self.pipes,
+            pid,
+            reading,
+            reads,
+            cloexec,
+        );
+        open_in(
+            &mut self.procs,
+            &mut self.descs,
+            &mut self.pipes,
+            pid,
+            writing,
+            writes,
+            cloexec,
+        );
+        Ok(())
     }
 
     /// Closes a descriptor, as in close(2), where it is open. Returns the file whose last description ended with it. A pipe
@@ -327,6 +422,49 @@ impl Manager {
         let ended = self.descs.let_go(entry.desc)?;
         self.pipes.end(ended.object);
         file_left(&self.descs, ended.object)
+    }
+
+    /// A process without a parent, with these registers and this break; descriptor 0 is open on standard input, 1 on standard
+    /// output and 2 on standard error.
+    pub fn start(&mut self, alloc: Global, cpu: Cpu, brk: Brk) -> Result<Pid, SpawnFault>
+        requires last { self.old.last < 2 ^ 32 - 1 }
+        requires room { length (held self.old.descs) + 3 ≤ DESCRIPTIONS }
+        ensures ok { OnOk result (self.new ≡ managed_after_all (start_effects (self.old.last + 1) cpu brk) self.old) }
+        ensures pid { IfOk result (λ pid. pid.0 ≡ self.old.last + 1) }
+        ensures limit { is_too_many result ≡ nat_le PROCESSES (length self.old.procs) }
+        ensures err { OnErr result (self.new ≡ self.old) }
+    {
+        let pid = self.spawn(alloc, cpu, brk)?;
+        self.open_streams(pid);
+        Ok(pid)
+    }
+
+    // A process without a parent and with all descriptors free.
+    fn spawn(&mut self, alloc: Global, cpu: Cpu, brk: Brk) -> Result<Pid, SpawnFault>
+        requires { self.old.last < 2 ^ 32 - 1 }
+        ensures ok { OnOk result (self.new ≡ managed_after (Starts (self.old.last + 1) cpu brk) self.old) }
+        ensures pid { IfOk result (λ pid. pid.0 ≡ self.old.last + 1) }
+        ensures there { OnOk result (process self.new.procs (self.old.last + 1) ≡ Some (first_process (self.old.last + 1) cpu brk)) }
+        ensures limit { is_too_many result ≡ nat_le PROCESSES (length self.old.procs) }
+        ensures err { OnErr result (self.new ≡ self.old) }
+    {
+        if self.procs.is_full() {
+            return Err(SpawnFault::TooMany);
+        }
+        let fds = Fds::new(alloc)?;
+        Ok(self.procs.spawn(Pid(0), cpu, brk, fds)?)
+    }
+
+    // The standard streams, for a process that lives and has nothing open.
+    fn open_streams(&mut self, pid: Pid)
+        requires alive { is_alive pid.0 self.old ≡ true }
+        requires free { fds_of (process self.old.procs pid.0) ≡ no_descriptors }
+        requires room { length (held self.old.descs) + 3 ≤ DESCRIPTIONS }
+        ensures { self.new ≡ managed_after_all (stream_effects pid.0) self.old }
+    {
+        self.open(pid, 0, Object::Input, 0, false);
+        self.open(pid, 1, Object::Output(Stream::Out), O_WRONLY, false);
+        self.open(pid, 2, Object::Output(Stream::Err), O_WRONLY, false);
     }
 
     /// A child of a process that lives, with these registers, as fork(2) makes it: it has the descriptors and the break of its
@@ -397,4 +535,25 @@ fn file_left(descs: &Descs, object: Object) -> Option<FileNo>
         }
         _ => None,
     }
+}
+
+// A new description for a free descriptor of a process that lives.
+fn open_in(procs: &mut Procs, descs: &mut Descs, pipes: &mut Pipes, pid: Pid, fd: u32, description: Description, cloexec: bool)
+    requires counted { Counted procs.old descs.old pipes.old }
+    requires alive { picks (λ p. is_live p.state) (process procs.old.procs pid.0) ≡ true }
+    requires fd { fd < DESCRIPTORS }
+    requires free { slot (fds_of (process procs.old.procs pid.0)) fd ≡ None }
+    requires pipe { PipeThere pipes.old.pipes description.object }
+    requires room { length (held descs.old.descs) < DESCRIPTIONS }
+    ensures procs { procs.new ≡ record procs.old { procs = at_pid pid.0 (at_fd fd (Some (record { desc = next_slot descs.old.descs; cloexec = cloexec }))) procs.old.procs } }
+    ensures descs { descs.new.descs ≡ with_next description descs.old.descs }
+    ensures pipes { pipes.new.pipes ≡ pipes.old.pipes }
+    ensures counted { Counted procs.new descs.new pipes.new }
+{
+    let entry = FdEntry {
+        desc: descs.add(description),
+        cloexec,
+    };
+    pipes.begin(description.object);
+    procs.set_fd(pid, fd, Some(entry));
 }
