@@ -54,8 +54,10 @@ impl Home {
     pub fn get(&self, pid: Pid, region: RegionNo) -> Option<MemId>
         ensures { result ≡ owner_of self.now pid.0 region.0 }
     {
-        let entry = get(self.entries.as_slice(), pid, region.0)?;
-        Some(entry.owner)
+        match get(self.entries.as_slice(), pid, region.0) {
+            Some(entry) => Some(entry.owner),
+            None => None,
+        }
     }
 
     /// A copy of all entries, rising by process and region.
