@@ -1,12 +1,11 @@
 -- The break of a process that is there, set to what it is.
-use Rattle.std.proofs.Common.{◌≡◌, ℕ, ◌≤◌, ◌<◌, inl, inr, Bool, true, false, cond, eqb, refl, sym, ◌∙◌, ap, List, [], ◌∷◌, Option, Some, None, arith}
+use Rattle.std.proofs.Common.{◌≡◌, ℕ, ◌≤◌, inl, inr, Bool, true, false, cond, eqb, refl, sym, ◌∙◌, ap, List, [], ◌∷◌, Some, arith}
 use Rattle.std.proofs.lemmas.Bool.{cases_eq, ne_eqb}
-use Rattle.kernel_objects.specs.declared.process.Brk.{Brk}
-use Rattle.linux_model.specs.State.{Kernel, Process}
+use Rattle.linux_model.specs.State.{Process}
 use Rattle.linux_model.specs.Processes.{at_pid, process}
 use Rattle.linux_model.specs.Fits.{PidsRise}
 use Rattle.sys_space.specs.Calls.{with_break}
-use Rattle.sys_space.specs.Laws.{IsThere, LentIsThere}
+use Rattle.sys_space.specs.Laws.{LentIsThere}
 
 not_there : (b : Bool) (x y : Process) → b ≡ false → cond b x y ≡ y
 not_there true x y e = cc e
