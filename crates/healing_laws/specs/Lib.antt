@@ -1,3 +1,4 @@
 pub mod Beside
 pub mod Moving
+pub mod Refusals
 pub mod Running
