@@ -29,3 +29,5 @@ pub mod LeadsBack
 pub mod TooMuch
 pub mod Causing
 pub mod Refuses
+pub mod Forms
+pub mod Answering

@@ -4,6 +4,8 @@ ghost use Rattle.healing_laws.specs.Beside.{DeliveriesBeside};
 ghost use Rattle.healing_laws.specs.Moving.{DeliveriesKeep, HealingEnds, MoveBegins, MoveEnds, OperationEndsBeside};
 ghost use Rattle.healing_laws.specs.Running.{EveryEventKeeps, EveryListEndsAtRest, EveryListKeeps, LeadsBackThroughCrashes};
 ghost use Rattle.healing_laws.specs.Refusals.{CrashesAloneRefuseNothing, PlainMapsFit, RefusalsHaveCausesThere};
+ghost use Rattle.healing_laws.specs.Forms.{ListsKeepMessagesInForm, MessagesStayInForm};
+ghost use Rattle.healing_laws.specs.Answering.{AnswersAreTrueThere};
 
 /// While a memory is healed, every delivery of a message that isn't the move's keeps the relation, whatever operation is
 /// open.
@@ -74,4 +76,21 @@ pub fn refusals_have_causes_through_crashes()
 /// With no operation open nothing refuses so that the run stops, whatever crashed and while a memory is healed.
 pub fn crashes_alone_refuse_nothing()
     ensures { CrashesAloneRefuseNothing }
+{}
+
+/// In the relation, and until a refusal stops the run, each message on its way to a memory or to storage is in form, those of
+/// a healing's moves among them.
+pub fn messages_are_in_form_through_crashes()
+    ensures { MessagesStayInForm }
+{}
+
+/// So at every moment of a legal list, whatever crashed.
+pub fn lists_keep_messages_in_form()
+    ensures { ListsKeepMessagesInForm }
+{}
+
+/// At every moment of a legal list the answers that an open operation has got say what is so of the plain map before it,
+/// whatever crashed.
+pub fn answers_are_true_through_crashes()
+    ensures { AnswersAreTrueThere }
 {}
