@@ -136,10 +136,10 @@ module _ (lost : Option ℕ) (t : Track) (o : Open) (h : Healing) (goes_on : t.s
       by false e = refl
       by true e = let two_ : true ≡ false = sym (gave (memory h.memory.0) e) ∙ (middle.healing.1 goes_on).forgotten in cc two_
 
-  same_owners : owners_after o.operation t.owners ≡ t.owners
+  pub same_owners : owners_after o.operation t.owners ≡ t.owners
   same_owners = owners_same (memory_count t.shape) t.owners h.memory.0 o.operation below no_target
 
-  same_lost : (cell : Cell) → share (memory_count t.shape) t.owners t.plain h.memory.0 cell ≡ share (memory_count t.shape) t.owners (effect o.operation t.plain) h.memory.0 cell
+  pub same_lost : (cell : Cell) → share (memory_count t.shape) t.owners t.plain h.memory.0 cell ≡ share (memory_count t.shape) t.owners (effect o.operation t.plain) h.memory.0 cell
   same_lost cell = elim (law.main h.memory.0) [
     | inl target ↦ let two_ : true ≡ false = sym target ∙ no_target in cc two_
     | inr same ↦ same cell

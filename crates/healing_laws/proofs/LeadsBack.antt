@@ -1,7 +1,8 @@
 -- An operation leads from rest back to rest, whatever crashes on the way.
 use Rattle.std.proofs.Common.{◌≡◌, ◌⊎◌, ◌<◌, ◌≤◌, ◌==◌, [], ◌∷◌, ◌∙◌, ℕ, Bool, List, None, Option, Some, ap, arith, cond, drop, false, inl, inr, length, refl, slice_get, subst, sym, true}
-use Rattle.lego_msg.specs.Completions.{completed, completed_beside, finished, move_finished, owners_after, sent_again}
-use Rattle.lego_msg.specs.Crashes.{forgotten}
+use Rattle.lego_msg.specs.Completions.{MayComplete, done_or, completed, completed_beside, finished, move_finished, owners_after, sent_again}
+use Rattle.lego_base.specs.declared.ids.MemId.{MemId}
+use Rattle.lego_msg.specs.Crashes.{crashed, forgotten, memory_lost}
 use Rattle.lego_msg.specs.Deliveries.{comes, issuer_gets, memory_handles, noted, noted_by_move, noted_with, reaction_of, reacts, stops, taken}
 use Rattle.lego_msg.specs.Legal.{Legal, May}
 use Rattle.lego_msg.specs.Marks.{Call, Mark, Order, Show}
@@ -11,8 +12,9 @@ use Rattle.lego_msg.specs.Plain.{effect}
 use Rattle.lego_msg.specs.Run.{after, run}
 use Rattle.lego_msg.specs.ShownEvents.{IsNext}
 use Rattle.lego_msg.specs.Sends.{MayBegin, MaySend, begins, move_begins, sent}
-use Rattle.lego_msg.specs.State.{Mem}
-use Rattle.lego_msg.specs.Track.{Track}
+use Rattle.lego_msg.specs.State.{Mem, lost}
+use Rattle.lego_msg.specs.Table.{handled}
+use Rattle.lego_msg.specs.Track.{Track, healing_move, is_complete}
 use Rattle.lego_msg.specs.declared.body.Body.{Body}
 use Rattle.lego_msg.specs.declared.event.Event.{Event}
 use Rattle.lego_msg.specs.declared.event.Event.TheVariants.{Access, Complete, Crash, Deliver, Drop, Fill, Out, Send, Turn}
@@ -25,6 +27,11 @@ use Rattle.lego_msg.specs.declared.place.Place.{Place}
 use Rattle.lego_msg.specs.declared.place.Place.TheVariants.{Manager, Memory, Processor, Storage}
 use Rattle.lego_rest.proofs.Resting.{rest-is-middle}
 use Rattle.rest_laws.specs.GoingOn.{BeginsGranted, IsDue, LedBack, owners_with}
+use Rattle.rest_laws.proofs.Goes.{complete_one}
+use Rattle.rest_laws.proofs.Refusing.{row_frames}
+use Rattle.healing_laws.proofs.Frames.{frames_at, set_frames}
+use Rattle.std.proofs.lemmas.Bool.{eq-eqb}
+use Rattle.lego_base.specs.declared.ids.OpNo.{OpNo}
 use Rattle.healing_laws.proofs.Events.{every-event-keeps, in_relation, over_rests}
 use Rattle.healing_laws.specs.Running.{GrantedBeside, InRelation, IsGrantedThere, IsOver, LeadsBackThroughCrashes}
 
@@ -39,21 +46,22 @@ pub record Same (now then_ : Track) : Type 0 where
   pub owners : then_.owners ≡ now.owners
   pub due : then_.due ≡ now.due
   pub operation : operation_in then_.current ≡ operation_in now.current
+  pub frames : (k : ℕ) → frames_at then_.mems k ≡ frames_at now.mems k
 
 -- what a step does
 pub data Steps (now then_ : Track) : Type 0 where
   Stays : Same now then_ → Steps now then_
-  Ends : (o : Open) → now.current ≡ Some o → then_ ≡ finished now (Some o) → Steps now then_
+  Ends : (o : Open) → now.current ≡ Some o → is_complete now.net o ≡ true → then_ ≡ finished now (Some o) → Steps now then_
   Shrinks : length then_.due < length now.due → Steps now then_
 
 noted_same : (t : Track) (m : Message) (c : Option Open) → t.current ≡ c → Same t (noted t m c)
-noted_same t m None is = record { plain = refl; owners = refl; due = refl; operation = refl }
+noted_same t m None is = record { plain = refl; owners = refl; due = refl; operation = refl; frames = λ k. refl }
 noted_same t m (Some o) is = by (m.op.0 == o.number.0) (reaction_of (patch_of o.operation) m.body)
   where
     by : (b : Bool) (r : Option Body) → Same t (cond b (reacts t o m r) t)
-    by true None = record { plain = refl; owners = refl; due = refl; operation = sym (ap operation_in is) }
-    by true (Some what) = record { plain = refl; owners = refl; due = refl; operation = refl }
-    by false r = record { plain = refl; owners = refl; due = refl; operation = refl }
+    by true None = record { plain = refl; owners = refl; due = refl; operation = sym (ap operation_in is); frames = λ k. refl }
+    by true (Some what) = record { plain = refl; owners = refl; due = refl; operation = refl; frames = λ k. refl }
+    by false r = record { plain = refl; owners = refl; due = refl; operation = refl; frames = λ k. refl }
 
 beside_same : (t : Track) (m : Message) (h : Option Healing) → Same t (noted_with t m h)
 beside_same t m None = noted_same t m t.current refl
@@ -64,59 +72,92 @@ beside_same t m (Some h) = by h.current
     by (Some o) = under (m.op.0 == o.number.0)
       where
         under : (b : Bool) → Same t (cond b (record t { healing = Some (record h { current = Some (record o { answers = record { place = m.from; body = m.body } ∷ o.answers }) }) }) (noted t m t.current))
-        under true = record { plain = refl; owners = refl; due = refl; operation = refl }
+        under true = record { plain = refl; owners = refl; due = refl; operation = refl; frames = λ k. refl }
         under false = noted_same t m t.current refl
 
-comes_same : (t : Track) (m : Message) (to : Place) → Same t (comes (taken t) m to)
+pub comes_same : (t : Track) (m : Message) (to : Place) → Same t (comes (taken t) m to)
 comes_same t m to = by to
   where
     taken_same : {u : Track} → Same (taken t) u → Same t u
-    taken_same same = record { plain = same.plain; owners = same.owners; due = same.due; operation = same.operation }
+    taken_same same = record { plain = same.plain; owners = same.owners; due = same.due; operation = same.operation; frames = same.frames }
 
     issuer : Same t (issuer_gets (taken t) m)
     issuer = under (stops m.body)
       where
         under : (b : Bool) → Same t (cond b (record (taken t) { stopped = true }) (noted_with (taken t) m t.healing))
-        under true = record { plain = refl; owners = refl; due = refl; operation = refl }
+        under true = record { plain = refl; owners = refl; due = refl; operation = refl; frames = λ k. refl }
         under false = taken_same (beside_same (taken t) m t.healing)
 
-    at_memory : (k : ℕ) (s : Option Mem) → Same t (memory_handles (taken t) k m s)
-    at_memory k None = record { plain = refl; owners = refl; due = refl; operation = refl }
-    at_memory k (Some s) = record { plain = refl; owners = refl; due = refl; operation = refl }
+    at_memory : (k : ℕ) (s : Option Mem) → slice_get t.mems k ≡ s → Same t (memory_handles (taken t) k m s)
+    at_memory k None at = record { plain = refl; owners = refl; due = refl; operation = refl; frames = λ j. refl }
+    at_memory k (Some s) at = record { plain = refl; owners = refl; due = refl; operation = refl; frames = set_frames t.mems k s (handled s m).0 at (row_frames s m m.body) }
 
     by : (to : Place) → Same t (comes (taken t) m to)
     by (Processor cpu) = issuer
-    by (Memory number) = at_memory number.0 (slice_get t.mems number.0)
-    by Storage = record { plain = refl; owners = refl; due = refl; operation = refl }
+    by (Memory number) = at_memory number.0 (slice_get t.mems number.0) refl
+    by Storage = record { plain = refl; owners = refl; due = refl; operation = refl; frames = λ k. refl }
     by Manager = issuer
 
-ended_steps : (t : Track) (c : Option Open) → t.current ≡ c → Steps t (finished t c)
-ended_steps t None is = Stays (record { plain = refl; owners = refl; due = refl; operation = refl })
-ended_steps t (Some o) is = Ends o is refl
+ended_steps : (t : Track) (op : OpNo) → done_or t.net t.current None ≡ Some op → Steps t (finished t t.current)
+ended_steps t op done = let one = complete_one t.net t.current op done in Ends one.0 one.1 one.2 (ap (finished t) one.1)
 
-completed_steps : (t : Track) (number : ℕ) (h : Option Healing) → Steps t (completed t number h)
-completed_steps t number None = ended_steps t t.current refl
-completed_steps t number (Some h) = by h.current
+pub completed_steps : (t : Track) (op : OpNo) → MayComplete t op → Steps t (completed t op.0 t.healing)
+completed_steps t op may = by t.healing may.complete
   where
     again_same : (c : Option Open) → operation_in (sent_again t c) ≡ operation_in c
     again_same None = refl
     again_same (Some o) = refl
 
-    moved : (o : Open) (moves : List Move) → Steps t (move_finished t h o moves)
-    moved o [] = Stays (record { plain = refl; owners = refl; due = refl; operation = again_same t.current })
-    moved o (move ∷ moves) = Stays (record { plain = refl; owners = refl; due = refl; operation = refl })
+    moved : (h : Healing) (o : Open) (moves : List Move) → Steps t (move_finished t h o moves)
+    moved h o [] = Stays (record { plain = refl; owners = refl; due = refl; operation = again_same t.current; frames = λ k. refl })
+    moved h o (move ∷ moves) = Stays (record { plain = refl; owners = refl; due = refl; operation = refl; frames = λ k. refl })
 
-    by : (move : Option Open) → Steps t (completed_beside t number h move)
-    by None = ended_steps t t.current refl
-    by (Some o) = under (o.number.0 == number)
+    one_number : (a b : OpNo) → Some a ≡ Some b → a ≡ b
+    one_number a b e = cc e
+
+    beside : (h : Healing) (move : Option Open) → done_or t.net move (done_or t.net t.current None) ≡ Some op → Steps t (completed_beside t op.0 h move)
+    beside h None done = ended_steps t op done
+    beside h (Some o) done = under (is_complete t.net o) (o.number.0 == op.0) refl done
       where
-        under : (b : Bool) → Steps t (cond b (move_finished t h o h.moves) (finished t t.current))
-        under true = moved o h.moves
-        under false = ended_steps t t.current refl
+        under : (a b : Bool) → (o.number.0 == op.0) ≡ b → cond a (Some o.number) (done_or t.net t.current None) ≡ Some op → Steps t (cond b (move_finished t h o h.moves) (finished t t.current))
+        under a true e done = moved h o h.moves
+        under false false e done = ended_steps t op done
+        under true false e done = let both : true ≡ false = sym (eq-eqb o.number.0 op.0 (ap (λ (n : OpNo). n.0) (one_number o.number op done))) ∙ e in cc both
+
+    by : (h : Option Healing) → done_or t.net (healing_move h) (done_or t.net t.current None) ≡ Some op → Steps t (completed t op.0 h)
+    by None done = ended_steps t op done
+    by (Some h) done = beside h h.current done
+
+lost_frames : (mems : List Mem) (number : ℕ) (c : Option Mem) → slice_get mems number ≡ c → (k : ℕ) → frames_at (memory_lost mems number c) k ≡ frames_at mems k
+lost_frames mems number None at k = refl
+lost_frames mems number (Some s) at k = set_frames mems number s (lost s) at refl k
 
 forgotten_same : (p : Place) (c : Option Open) → operation_in (forgotten p c) ≡ operation_in c
 forgotten_same p None = refl
 forgotten_same p (Some o) = refl
+
+pub crashed_same : (t : Track) (number : MemId) → Same t (crashed t number.0)
+crashed_same t number = record { plain = refl; owners = refl; due = refl; operation = forgotten_same (memory number.0) t.current; frames = lost_frames t.mems number.0 (slice_get t.mems number.0) refl }
+
+pub finished_due : (t : Track) (c : Option Open) → (finished t c).due ≡ t.due
+finished_due t None = refl
+finished_due t (Some o) = refl
+
+pub completed_due : (t : Track) (number : ℕ) (h : Option Healing) → (completed t number h).due ≡ t.due
+completed_due t number None = finished_due t t.current
+completed_due t number (Some h) = by h.current
+  where
+    moved : (o : Open) (moves : List Move) → (move_finished t h o moves).due ≡ t.due
+    moved o [] = refl
+    moved o (move ∷ moves) = refl
+
+    by : (move : Option Open) → (completed_beside t number h move).due ≡ t.due
+    by None = finished_due t t.current
+    by (Some o) = under (o.number.0 == number)
+      where
+        under : (b : Bool) → (cond b (move_finished t h o h.moves) (finished t t.current)).due ≡ t.due
+        under true = moved o h.moves
+        under false = finished_due t t.current
 
 -- a mark that comes is due no more
 shown_shrinks : (due : List Mark) (e : Event) → IsNext e due → length (drop 1 due) < length due
@@ -133,30 +174,26 @@ sent_steps t m may = by t.owed t.healing t.current refl may
     begin (Call o ∷ due) is may = Shrinks (subst (λ (ms : List Mark). length due < length ms) (sym is) (omega arith))
 
     moves : (h : Healing) (ms : List Move) → Steps t (move_begins t m h ms)
-    moves h [] = Stays (record { plain = refl; owners = refl; due = refl; operation = refl })
-    moves h (move ∷ ms) = Stays (record { plain = refl; owners = refl; due = refl; operation = refl })
+    moves h [] = Stays (record { plain = refl; owners = refl; due = refl; operation = refl; frames = λ k. refl })
+    moves h (move ∷ ms) = Stays (record { plain = refl; owners = refl; due = refl; operation = refl; frames = λ k. refl })
 
     by : (owed : List Message) (h : Option Healing) (c : Option Open) → t.current ≡ c → MaySend t m owed h c → Steps t (sent t m owed h c)
-    by (x ∷ more) h c is may = Stays (record { plain = refl; owners = refl; due = refl; operation = refl })
+    by (x ∷ more) h c is may = Stays (record { plain = refl; owners = refl; due = refl; operation = refl; frames = λ k. refl })
     by [] (Some h) c is may = moves h h.moves
-    by [] None (Some o) is may = Stays (record { plain = refl; owners = refl; due = refl; operation = sym (ap operation_in is) })
+    by [] None (Some o) is may = Stays (record { plain = refl; owners = refl; due = refl; operation = sym (ap operation_in is); frames = λ k. refl })
     by [] None None is may = begin t.due refl may.1
 
 -- WHAT EVERY EVENT does
-event_steps : (t : Track) (e : Event) → May t e → Steps t (after t e)
+pub event_steps : (t : Track) (e : Event) → May t e → Steps t (after t e)
 event_steps t (Turn number pid) may = Shrinks (shown_shrinks t.due (Turn number pid) may.0.1)
 event_steps t (Access cpu pid address kind bytes) may = Shrinks (shown_shrinks t.due (Access cpu pid address kind bytes) may.0.1)
 event_steps t (Fill pid address bytes) may = Shrinks (shown_shrinks t.due (Fill pid address bytes) may.1)
 event_steps t (Drop cpu pid line) may = Shrinks (shown_shrinks t.due (Drop cpu pid line) may.0.1)
 event_steps t (Send m) may = sent_steps t m may
 event_steps t (Deliver m) may = Stays (comes_same t m m.to)
-event_steps t (Crash number inc) may = Stays (record { plain = refl; owners = refl; due = refl; operation = forgotten_same (memory number.0) t.current })
-event_steps t (Complete op) may = completed_steps t op.0 t.healing
+event_steps t (Crash number inc) may = Stays (crashed_same t number)
+event_steps t (Complete op) may = completed_steps t op may
 event_steps t (Out stream bytes) may = Shrinks (shown_shrinks t.due (Out stream bytes) may.1)
-
-finished_due : (t : Track) (c : Option Open) → (finished t c).due ≡ t.due
-finished_due t None = refl
-finished_due t (Some o) = refl
 
 -- what is due never grows
 never_grows : (t : Track) (e : Event) → May t e → length (after t e).due ≤ length t.due
@@ -164,7 +201,7 @@ never_grows t e may = by (event_steps t e may)
   where
     by : Steps t (after t e) → length (after t e).due ≤ length t.due
     by (Stays same) = let is : length (after t e).due ≡ length t.due = ap length same.due in omega (arith, is)
-    by (Ends o open_ is) = let same : length (after t e).due ≡ length t.due = ap (λ (u : Track). length u.due) is in omega (arith, same)
+    by (Ends o open_ complete is) = let same : length (after t e).due ≡ length t.due = ap (λ (u : Track). length u.due) is in omega (arith, same)
     by (Shrinks less) = omega (arith, less)
 
 pub list_never_grows : (t : Track) (events : List Event) → Legal t events → length (run t events).due ≤ length t.due
@@ -247,7 +284,7 @@ module _ (t : Track) (o : Order) (rest : List Mark) where
 
       by : InRelation (after now e) → Steps now (after now e) → Way (after now e) ⊎ (length (after now e).due < length now.due)
       by middle (Stays same) = inl (record { middle = middle; due = same.due ∙ way.due; stands = same_stands same way.stands })
-      by middle (Ends p is ended) = inl (record { middle = middle; due = ap (λ (u : Track). u.due) ended ∙ way.due; stands = ends_stands p is ended way.stands })
+      by middle (Ends p is complete ended) = inl (record { middle = middle; due = ap (λ (u : Track). u.due) ended ∙ way.due; stands = ends_stands p is ended way.stands })
       by middle (Shrinks less) = inr less
 
   goes_on : (now : Track) (events : List Event) → Legal now events → (run now events).due ≡ rest → Way now → Way (run now events)

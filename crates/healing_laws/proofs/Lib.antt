@@ -24,4 +24,10 @@ pub mod HealingEnds
 pub mod Settled
 pub mod EndsBeside
 pub mod Events
+pub mod Frames
 pub mod LeadsBack
+pub mod TooMuch
+pub mod Causing
+pub mod Refuses
+pub mod Forms
+pub mod Answering

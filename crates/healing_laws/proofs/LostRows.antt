@@ -206,7 +206,7 @@ module _ (lost : Option ℕ) (t : Track) (m : Message) (may : MayDeliver t m) (m
         let both = both_true (p == pid.0) (vpn / 512 == region.0) e in
         subst (λ (q : ℕ). IsEither (sides_of t) h.memory.0 (Page q vpn) (page_in (with_pages pid.0 region.0 pages x.pages) q vpn)) (sym (eqb-true p pid.0 both.0)) (region_fits (sides_of t) h.memory.0 pid region pages x.pages handed vpn (eqb-true (vpn / 512) region.0 both.1))
 
-    new_pages : (p vpn : ℕ) → old_share (sides_of t) h.memory.0 (Page p vpn) ≡ None → new_share (sides_of t) h.memory.0 (Page p vpn) ≡ None → page_in (with_pages pid.0 region.0 pages x.pages) p vpn ≡ None
+    pub new_pages : (p vpn : ℕ) → old_share (sides_of t) h.memory.0 (Page p vpn) ≡ None → new_share (sides_of t) h.memory.0 (Page p vpn) ≡ None → page_in (with_pages pid.0 region.0 pages x.pages) p vpn ≡ None
     new_pages p vpn old new_ = by (is_page_of pid.0 region.0 (key_at p vpn)) refl
       where
         either : IsEither (sides_of t) h.memory.0 (Page p vpn) (page_in (with_pages pid.0 region.0 pages x.pages) p vpn) → page_in (with_pages pid.0 region.0 pages x.pages) p vpn ≡ None

@@ -1,3 +1,6 @@
+pub mod Answering
 pub mod Beside
+pub mod Forms
 pub mod Moving
+pub mod Refusals
 pub mod Running

@@ -3,6 +3,9 @@
 ghost use Rattle.healing_laws.specs.Beside.{DeliveriesBeside};
 ghost use Rattle.healing_laws.specs.Moving.{DeliveriesKeep, HealingEnds, MoveBegins, MoveEnds, OperationEndsBeside};
 ghost use Rattle.healing_laws.specs.Running.{EveryEventKeeps, EveryListEndsAtRest, EveryListKeeps, LeadsBackThroughCrashes};
+ghost use Rattle.healing_laws.specs.Refusals.{CrashesAloneRefuseNothing, PlainMapsFit, RefusalsHaveCausesThere};
+ghost use Rattle.healing_laws.specs.Forms.{ListsKeepMessagesInForm, MessagesStayInForm};
+ghost use Rattle.healing_laws.specs.Answering.{AnswersAreTrueThere};
 
 /// While a memory is healed, every delivery of a message that isn't the move's keeps the relation, whatever operation is
 /// open.
@@ -56,4 +59,38 @@ pub fn every_list_ends_at_rest()
 /// on the plain map is all that is new.
 pub fn operations_lead_back_through_crashes()
     ensures { LeadsBackThroughCrashes }
+{}
+
+/// At every moment of a legal list, whatever crashed before, a memory has frames for every page that it owns of the plain
+/// map.
+pub fn plain_maps_fit_their_memories()
+    ensures { PlainMapsFit }
+{}
+
+/// At every moment of a legal list a component refuses so that the run stops for one of two causes: the open operation needs
+/// more pages of a memory than it has frames, or more blocks than storage has.
+pub fn refusals_have_causes_through_crashes()
+    ensures { RefusalsHaveCausesThere }
+{}
+
+/// With no operation open nothing refuses so that the run stops, whatever crashed and while a memory is healed.
+pub fn crashes_alone_refuse_nothing()
+    ensures { CrashesAloneRefuseNothing }
+{}
+
+/// In the relation, and until a refusal stops the run, each message on its way to a memory or to storage is in form, those of
+/// a healing's moves among them.
+pub fn messages_are_in_form_through_crashes()
+    ensures { MessagesStayInForm }
+{}
+
+/// So at every moment of a legal list, whatever crashed.
+pub fn lists_keep_messages_in_form()
+    ensures { ListsKeepMessagesInForm }
+{}
+
+/// At every moment of a legal list the answers that an open operation has got say what is so of the plain map before it,
+/// whatever crashed.
+pub fn answers_are_true_through_crashes()
+    ensures { AnswersAreTrueThere }
 {}

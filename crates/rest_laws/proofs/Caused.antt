@@ -50,7 +50,7 @@ use Rattle.lego_msg.specs.declared.body.Body.TheVariants as body
 use Rattle.lego_msg.specs.declared.place.Place.TheVariants as place
 
 -- what is served doesn't refuse
-served_goes : (x : Message) → IsServed x → stops x.body ≡ false
+pub served_goes : (x : Message) → IsServed x → stops x.body ≡ false
 served_goes x served = by x.to refl
   where
     by : (to : Place) → x.to ≡ to → stops x.body ≡ false
@@ -64,7 +64,7 @@ each_dry : (d : Disk) (by : Place) (number : OpNo) (count k : ℕ) (what last : 
 each_dry d by number zero k what last one end = (end, tt)
 each_dry d by number (suc count) k what last one end = (one, each_dry d by number count (k + 1) what last one end)
 
-first_dry : (d : Disk) (n : ℕ) (by : Place) (number : OpNo) (o : Operation) → IsCalled o → AllByRecursion (λ (x : Message). Overflows d x.body → ⊥) (messages_of by number (asks_of n o))
+pub first_dry : (d : Disk) (n : ℕ) (by : Place) (number : OpNo) (o : Operation) → IsCalled o → AllByRecursion (λ (x : Message). Overflows d x.body → ⊥) (messages_of by number (asks_of n o))
 first_dry d n by number (op.Finds pid region) called = ((λ e. e), tt)
 first_dry d n by number (op.Reads pid line owner) called = ((λ e. e), tt)
 first_dry d n by number (op.Writes origin patch owner) called = ((λ e. e), ((λ e. e), tt))
@@ -86,7 +86,7 @@ first_dry d n by number op.ListsNames called = ((λ e. e), tt)
 first_dry d n by number (op.FreesFile file) called = ((λ e. e), tt)
 first_dry d n by number (op.Heals to_ what_) called = absurd called
 
-reacted_dry : (d : Disk) (n : ℕ) (o : Operation) (to : Place) (told : Body) → Reacts n o to told → Overflows d told → ⊥
+pub reacted_dry : (d : Disk) (n : ℕ) (o : Operation) (to : Place) (told : Body) → Reacts n o to told → Overflows d told → ⊥
 reacted_dry d n (op.Finds pid region) to told how more = absurd how
 reacted_dry d n (op.Reads pid line owner) to told how more = absurd how
 reacted_dry d n (op.Writes origin patch owner) to told (where_, inl e) more = subst (Overflows d) e more
@@ -111,7 +111,7 @@ reacted_dry d n (op.FreesFile file) to told how more = absurd how
 reacted_dry d n (op.Heals to_ what_) to told how more = absurd how
 
 -- then the files would need too many blocks once the operation is complete
-overflow : (d : Disk) (n : ℕ) (owners : List HomeEntry) (f : Plain) (by : Place) (o : Operation) (x : Message) → OpFits owners f o → (d.files ≡ f.files) ⊎ (d.files ≡ (effect o f).files) → HandsOn n f by o x → Overflows d x.body → is_room f.files (effect o f).files.files ≡ false
+pub overflow : (d : Disk) (n : ℕ) (owners : List HomeEntry) (f : Plain) (by : Place) (o : Operation) (x : Message) → OpFits owners f o → (d.files ≡ f.files) ⊎ (d.files ≡ (effect o f).files) → HandsOn n f by o x → Overflows d x.body → is_room f.files (effect o f).files.files ≡ false
 overflow d n owners f by (op.Finds pid region) x fits disk how more = absurd how
 overflow d n owners f by (op.Reads pid line owner) x fits disk how more = absurd how
 overflow d n owners f by (op.Writes origin patch owner) x fits disk how more = absurd how
@@ -200,7 +200,7 @@ module _ (t : Track) (o : Order) (rest : List Mark) where
       too_much k s to at more = by pend.kind
         where
           of_open : OfOpen (memory_count now.shape) now.plain x way.stands.one → IsTooMuch now.owners (effect way.stands.one.operation now.plain) k s.frames
-          of_open (First among) = excess now way.stands.one k s at way.stands.one.operation calm_middle x to among more
+          of_open (First among) = excess None (record now { healing = None }) way.stands.one k s at tt way.stands.one.operation calm_middle x to among more
           of_open (Reaction from how) = absurd (reacted_small (memory_count now.shape) way.stands.one.operation x.to x.body s how more)
           of_open (HandedOn how) = absurd (handed_small (memory_count now.shape) now.plain way.stands.one.by way.stands.one.operation x s how more)
           of_open (AnAnswer back target says) = let both : false ≡ true = ap is_issuer (sym to ∙ back) ∙ fits.by in cc both

@@ -21,7 +21,7 @@ use Rattle.lego_msg.specs.declared.operation.Operation.TheVariants as op
 use Rattle.lego_msg.specs.declared.place.Place.{Place}
 use Rattle.lego_rest.specs.Fits.{PagesFit}
 use Rattle.lego_rest.specs.Parts.{Page, owns}
-use Rattle.lego_rest.specs.Pending.{Among, HandsOn, Reacts}
+use Rattle.lego_rest.specs.Pending.{Among, HandsOn, IsUp, Reacts}
 use Rattle.lego_rest.specs.Rest.{Middle}
 use Rattle.rest_laws.proofs.Lookup.{page-patched}
 use Rattle.rest_laws.proofs.Meeting.{memory_same}
@@ -36,7 +36,7 @@ use Rattle.rest_laws.specs.Causes.{IsTooMuch}
 use Rattle.lego_msg.specs.declared.body.Body.TheVariants as body
 
 -- each entry of a rising list is found under its key
-listed_found : (pages : List PageImage) → Rises page_key pages → AllByRecursion (λ (p : PageImage). page_in pages p.pid.0 p.vpn.0 ≡ Some p.bytes) pages
+pub listed_found : (pages : List PageImage) → Rises page_key pages → AllByRecursion (λ (p : PageImage). page_in pages p.pid.0 p.vpn.0 ≡ Some p.bytes) pages
 listed_found [] rise = tt
 listed_found (x ∷ pages) rise = (ap (λ (b : Bool). image_bytes (cond b (Some x) (find page_key (page_key x) pages))) (same_self (page_key x)), every later pages (listed_found pages rise.1))
   where
@@ -63,9 +63,9 @@ each_small : (s : Mem) (by : Place) (number : OpNo) (count k : ℕ) (what last :
 each_small s by number zero k what last one end = (end, tt)
 each_small s by number (suc count) k what last one end = (one, each_small s by number count (k + 1) what last one end)
 
-module _ (t : Track) (one : Open) (k : ℕ) (s : Mem) (at : slice_get t.mems k ≡ Some s) where
+module _ (lost : Option ℕ) (t : Track) (one : Open) (k : ℕ) (s : Mem) (at : slice_get t.mems k ≡ Some s) (up : IsUp lost k) where
   -- a first message by which a memory would hold too much
-  pub excess : (o : Operation) → Middle None (record t { healing = None; current = Some (record one { operation = o }) }) → (x : Message) → x.to ≡ memory k → Among x (messages_of one.by one.number (asks_of (memory_count t.shape) o)) → Exceeds s x.body → IsTooMuch t.owners (effect o t.plain) k s.frames
+  pub excess : (o : Operation) → Middle lost (record t { current = Some (record one { operation = o }) }) → (x : Message) → x.to ≡ memory k → Among x (messages_of one.by one.number (asks_of (memory_count t.shape) o)) → Exceeds s x.body → IsTooMuch t.owners (effect o t.plain) k s.frames
   excess (op.Finds pid region) middle x to among more = absurd (all_among (λ (y : Message). Exceeds s y.body → ⊥) (messages_of one.by one.number (asks_of (memory_count t.shape) (op.Finds pid region))) x among ((λ e. e), tt) more)
   excess (op.Reads pid line owner) middle x to among more = absurd (all_among (λ (y : Message). Exceeds s y.body → ⊥) (messages_of one.by one.number (asks_of (memory_count t.shape) (op.Reads pid line owner))) x among ((λ e. e), tt) more)
   excess (op.Writes origin patch owner) middle x to (inl e) more = absurd (subst (Exceeds s) (ap (λ (y : Message). y.body) e) more)
@@ -78,7 +78,7 @@ module _ (t : Track) (one : Open) (k : ℕ) (s : Mem) (at : slice_get t.mems k �
       fits = middle.current.0.fits
 
       page : (p v : ℕ) → page_in (patched patch s.pages) p v ≡ cond (owns t.owners owner.0 p (v / 512)) ((effect (op.Writes origin patch owner) t.plain).page p v) None
-      page p v = page-patched patch s.pages p v ∙ laid_new (memory_count t.shape) t.owners t.plain patch owner.0 p v (page_in s.pages p v) fits.patch middle.plain (owned None t one origin patch owner fits middle.current.0.requests.1.0.there owner.0 p v refl) ((middle.memories owner.0 s tt (ap (slice_get t.mems) (sym here) ∙ at)).part.either (Page p v))
+      page p v = page-patched patch s.pages p v ∙ laid_new (memory_count t.shape) t.owners t.plain patch owner.0 p v (page_in s.pages p v) fits.patch middle.plain (owned lost t one origin patch owner fits middle.current.0.requests.1.0.there owner.0 p v refl) ((middle.memories owner.0 s (subst (IsUp lost) here up) (ap (slice_get t.mems) (sym here) ∙ at)).part.either (Page p v))
   excess (op.Writes origin patch owner) middle x to (inr (inr nobody)) more = absurd nobody
   excess (op.SetsHome pid region owner) middle x to among more = absurd (all_among (λ (y : Message). Exceeds s y.body → ⊥) (messages_of one.by one.number (asks_of (memory_count t.shape) (op.SetsHome pid region owner))) x among ((λ e. e), ((λ e. e), tt)) more)
   excess (op.SetsAreas pid region areas owner) middle x to among more = absurd (all_among (λ (y : Message). Exceeds s y.body → ⊥) (messages_of one.by one.number (asks_of (memory_count t.shape) (op.SetsAreas pid region areas owner))) x among ((λ e. e), ((λ e. e), tt)) more)
@@ -92,7 +92,7 @@ module _ (t : Track) (one : Open) (k : ℕ) (s : Mem) (at : slice_get t.mems k �
       here = memory_same k owner.0 (sym to ∙ ap (λ (y : Message). y.to) e)
 
       page : (p v : ℕ) → page_in (copied_pages parent.0 child regions s.pages) p v ≡ cond (owns t.owners owner.0 p (v / 512)) ((effect (op.Copies parent child regions owner) t.plain).page p v) None
-      page p v = pages_copied_in parent.0 child (eqb_sym child.0 parent.0 ∙ middle.current.0.fits.0.0) regions s.pages p v (middle.forms k s at).pages ∙ pages_new None t one parent child regions owner middle.current.0.fits.0.0 middle.current.0.fits.1 middle.current.0.requests.1.0.there (page_in s.pages) (λ p v. (middle.memories owner.0 s tt (ap (slice_get t.mems) (sym here) ∙ at)).part.either (Page p v)) p v
+      page p v = pages_copied_in parent.0 child (eqb_sym child.0 parent.0 ∙ middle.current.0.fits.0.0) regions s.pages p v (middle.forms k s at).pages ∙ pages_new lost t one parent child regions owner middle.current.0.fits.0.0 middle.current.0.fits.1 middle.current.0.requests.1.0.there (page_in s.pages) (λ p v. (middle.memories owner.0 s (subst (IsUp lost) here up) (ap (slice_get t.mems) (sym here) ∙ at)).part.either (Page p v)) p v
   excess (op.Copies parent child regions owner) middle x to (inr (inr (inl e))) more = absurd (subst (Exceeds s) (ap (λ (y : Message). y.body) e) more)
   excess (op.Copies parent child regions owner) middle x to (inr (inr (inr nobody))) more = absurd nobody
   excess (op.Drops pid) middle x to among more = absurd (all_among (λ (y : Message). Exceeds s y.body → ⊥) (messages_of one.by one.number (asks_of (memory_count t.shape) (op.Drops pid))) x among (each_small s one.by one.number (memory_count t.shape) 0 (body.DropSpace pid) (body.ImageFree pid) (λ e. e) (λ e. e)) more)

@@ -25,7 +25,7 @@ use Rattle.lego_msg.specs.declared.place.Place.{Place}
 use Rattle.lego_rest.specs.Answers.{all_pending}
 use Rattle.lego_rest.specs.Fits.{HasBatch, MemFits, background, batch_message, is_background, receipt}
 use Rattle.lego_rest.specs.Parts.{plain_with}
-use Rattle.lego_rest.specs.Pending.{Among, AnAnswer, First, Goes, HandedOn, HandsOn, IsBatch, IsPlace, Left, MayPend, OfBackground, OfMove, OfOpen, OfOperation, Pends, Reaction, Reacts, Returns}
+use Rattle.lego_rest.specs.Pending.{Among, AnAnswer, First, Goes, HandedOn, HandsOn, IsBatch, IsOfMove, IsPlace, IsUp, Left, MayPend, OfBackground, OfMove, OfOpen, OfOperation, Pends, Reaction, Reacts, Returns}
 use Rattle.lego_rest.specs.Rest.{CurrentFits, MemHolds, Middle}
 use Rattle.rest_laws.proofs.Blocks.{block_length}
 use Rattle.rest_laws.proofs.Ended.{get_within}
@@ -145,12 +145,12 @@ lie_within (p ∷ patches) all = (all.0.1, lie_within patches all.1)
 
 -- A BATCH ON ITS WAY
 
-module _ (t : Track) (middle : Middle None t) (m : Message) (k : ℕ) (below : k < memory_count t.shape) (number : m.op.0 ≡ 0) (from : m.from ≡ memory k) (among : Among m (all_pending t)) (patches : List Patch) (what : m.body ≡ body.Backup patches) where
+module _ (lost : Option ℕ) (t : Track) (middle : Middle lost t) (m : Message) (k : ℕ) (up : IsUp lost k) (below : k < memory_count t.shape) (number : m.op.0 ≡ 0) (from : m.from ≡ memory k) (among : Among m (all_pending t)) (patches : List Patch) (what : m.body ≡ body.Backup patches) where
   sender : (x : Mem) × (slice_get t.mems k ≡ Some x)
   sender = let count = middle.count in get_within t.mems k (omega (arith, below, count))
 
   holds : MemHolds t k sender.0
-  holds = middle.memories k sender.0 tt sender.1
+  holds = middle.memories k sender.0 up sender.1
 
   fits : MemFits t.shape k sender.0
   fits = middle.forms k sender.0 sender.1
@@ -195,8 +195,8 @@ module _ (t : Track) (middle : Middle None t) (m : Message) (k : ℕ) (below : k
   batch_formed : Formed t.disk m.body
   batch_formed = subst (Formed t.disk) (sym what) (subst (AllByRecursion IsWithinPage) (sym batch) (lie_within (take sender.0.out sender.0.log) (log_front PatchFits sender.0.out sender.0.log fits.log)), tt)
 
-module _ (t : Track) (healed : t.healing ≡ None) (middle : Middle None t) where
-  formed : (c : Option Open) → t.current ≡ c → CurrentFits t c → (x : Message) → Among x (all_pending t) → IsPlace (memory_count t.shape) x.from → Pends None (memory_count t.shape) t.plain c None t.next x → IsFormed t.disk x
+module _ (lost : Option ℕ) (t : Track) (middle : Middle lost t) (of_move : (x : Message) → IsOfMove x (healing_move t.healing) → IsFormed t.disk x) where
+  formed : (c : Option Open) → t.current ≡ c → CurrentFits t c → (x : Message) → Among x (all_pending t) → IsPlace (memory_count t.shape) x.from → Pends lost (memory_count t.shape) t.plain c (healing_move t.healing) t.next x → IsFormed t.disk x
   formed None is fits x among place (OfOperation of) component = absurd of
   formed (Some o) is fits x among place (OfOperation of) component = by of.2
     where
@@ -208,22 +208,19 @@ module _ (t : Track) (healed : t.healing ≡ None) (middle : Middle None t) wher
       by (Reaction from how) = reaction_formed t.disk t.owners t.plain (memory_count t.shape) o.operation x.to x.body fits.0.fits how
       by (HandedOn how) = handed_formed t.disk t.owners t.plain (memory_count t.shape) o.by o.operation x fits.0.fits disk how
       by (AnAnswer to target says) = let both : false ≡ true = sym component ∙ ap is_issuer to ∙ fits.0.by in cc both
-  formed c is fits x among place (OfMove of) component = absurd of
+  formed c is fits x among place (OfMove of) component = of_move x of component
   formed c is fits x among place (OfBackground of) component = by of.batch
     where
       by : IsBatch x of.of → Formed t.disk x.body
-      by (Goes from to patches what) = batch_formed t middle x of.of (subst (IsPlace (memory_count t.shape)) from place) of.number from among patches what
+      by (Goes from to patches what) = batch_formed lost t middle x of.of of.up (subst (IsPlace (memory_count t.shape)) from place) of.number from among patches what
       by (Returns from to what) = subst (Formed t.disk) (sym what) (tt, tt)
   formed c is fits x among place (Left old) component = let both : false ≡ true = sym component ∙ old.to in cc both
 
   pub all_formed : AllByRecursion (IsFormed t.disk) t.net
   all_formed = all_front (IsFormed t.disk) t.net t.owed (each_among (IsFormed t.disk) (all_pending t) each)
     where
-      may : AllByRecursion (MayPend None (memory_count t.shape) t.plain t.current None t.next) (all_pending t)
-      may = subst (λ (h : Option Healing). AllByRecursion (MayPend None (memory_count t.shape) t.plain t.current (healing_move h) t.next) (all_pending t)) healed middle.pending
-
       each : (x : Message) → Among x (all_pending t) → IsFormed t.disk x
-      each x among = let pends = all_among (MayPend None (memory_count t.shape) t.plain t.current None t.next) (all_pending t) x among may in formed t.current refl middle.current x among pends.from pends.kind
+      each x among = let pends = all_among (MayPend lost (memory_count t.shape) t.plain t.current (healing_move t.healing) t.next) (all_pending t) x among middle.pending in formed t.current refl middle.current x among pends.from pends.kind
 
 pub messages-are-in-form : MessagesAreInForm
-messages-are-in-form t healed middle = all_formed t healed middle
+messages-are-in-form t healed middle = all_formed None t middle (λ x of. absurd (subst (λ (h : Option Healing). IsOfMove x (healing_move h)) healed of))

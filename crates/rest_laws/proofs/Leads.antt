@@ -33,7 +33,7 @@ use Rattle.rest_laws.proofs.Opened.{every}
 use Rattle.rest_laws.specs.GoingOn.{AnswersAreTrue, BeginsGranted, IsOfMessages, LeadsBack, LedBack, StandsOpen, owners_with}
 
 -- WHAT AN ANSWER SAYS is what is so
-says_reply : (n : ℕ) (f : Plain) (o : Operation) (from : Place) (told : Body) → Says n f o from told → IsReply f o told
+pub says_reply : (n : ℕ) (f : Plain) (o : Operation) (from : Place) (told : Body) → Says n f o from told → IsReply f o told
 says_reply n f (Finds pid region) from told says = says
 says_reply n f (Reads pid line owner) from told says = says
 says_reply n f (Writes origin patch owner) from told says = tt
