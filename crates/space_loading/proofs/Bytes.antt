@@ -1,5 +1,5 @@
 -- The bytes of the loads in a page.
-use Rattle.std.proofs.Common.{◌≡◌, ℕ, zero, suc, ◌+◌, ◌-◌, ◌*◌, ◌/◌, ◌≤◌, ◌<◌, refl, sym, ◌∙◌, ap, subst, List, [], ◌∷◌, ◌++◌, length, IsSome, All, arith}
+use Rattle.std.proofs.Common.{◌≡◌, ℕ, ◌+◌, ◌-◌, ◌*◌, ◌/◌, ◌≤◌, ◌<◌, sym, ◌∙◌, ap, subst, List, length, IsSome, All, arith}
 use Rattle.lego_base.specs.declared.records.Area.{Area}
 use Rattle.lego_base.specs.Space.{Space, bytes_at, perms_of}
 use Rattle.elf_image.specs.declared.image.Segment.{Segment}
@@ -8,30 +8,8 @@ use Rattle.space_rules.specs.Mapped.{image_areas_of}
 use Rattle.kernel_model.specs.Boot.{first_byte, last_end}
 use Rattle.call_machine.specs.Effects.{FillsPage}
 use Rattle.space_loading.specs.Pages.{HasPart}
+use Rattle.space_loading.proofs.Laid.{length_is}
 use Rattle.space_loading.proofs.Parts.{first_above, has_bytes, last_below, part_mapped}
-
-length_is : (space : Space) (a n : ℕ) → length (bytes_at space a n) ≡ n
-length_is space a zero = refl
-length_is space a (suc n) = ap suc (length_is space (a + 1) n)
-
-one_more : (space : Space) (a n : ℕ) → bytes_at space a n ++ space.byte (a + n) ∷ [] ≡ bytes_at space a (suc n)
-one_more space a zero =
-    let e : a + 0 ≡ a = omega arith in
-    ap (λ (b : ℕ). space.byte b ∷ []) e
-one_more space a (suc n) =
-    let e : a + suc n ≡ a + 1 + n = omega arith in
-    ap (λ (b : ℕ). space.byte a ∷ (bytes_at space (a + 1) n ++ space.byte b ∷ [])) e
-    ∙ ap (λ (bytes : List ℕ). space.byte a ∷ bytes) (one_more space (a + 1) n)
-
--- a byte more, of those that start at an address
-pub byte_more : (space : Space) (first address byte : ℕ) (bytes more : List ℕ) → first ≤ address → bytes ≡ bytes_at space first (address - first) → byte ≡ space.byte address → more ≡ bytes ++ byte ∷ [] → more ≡ bytes_at space first (address + 1 - first)
-byte_more space first address byte bytes more h so is pushed =
-    let at : address ≡ first + (address - first) = omega (arith, h) in
-    let size : suc (address - first) ≡ address + 1 - first = omega (arith, h) in
-    pushed
-    ∙ (λ i. so i ++ (is ∙ ap space.byte at) i ∷ [])
-    ∙ one_more space first (address - first)
-    ∙ ap (bytes_at space first) size
 
 -- the loader may write them
 pub fills_page : (space loads : Space) (segments : List Segment) (page first last : ℕ) (bytes : List ℕ) → All IsBoundedSegment segments → HasPart segments page → space.areas ≡ image_areas_of segments → first ≡ first_byte segments page → last ≡ last_end segments page → bytes ≡ bytes_at loads first (last - first) → FillsPage space first bytes

@@ -1,5 +1,6 @@
 pub mod Bytes
 pub mod Filling
+pub mod Laid
 pub mod Loaded
 pub mod Parts
 pub mod Rising

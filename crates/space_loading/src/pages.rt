@@ -1,7 +1,8 @@
 //! What the loads have in a page.
 
-ghost use Rattle.std.specs.Prelude.{◌≡◌, ◌-◌, ◌/◌, ◌<◌, ◌≤◌, ◌^◌, [], All, IfOk, IfSome};
-ghost use Rattle.lego_base.specs.Space.{bytes_at};
+ghost use Rattle.std.specs.Prelude.{◌≡◌, ◌+◌, ◌-◌, ◌/◌, ◌<◌, ◌≤◌, ◌^◌, [], All, IfOk, IfSome, length};
+ghost use Rattle.lego_base.specs.Pieces.{laid_over};
+ghost use Rattle.lego_base.specs.Space.{bytes_at, Space, with_bytes};
 ghost use Rattle.elf_image.specs.Image.{IsBoundedSegment};
 ghost use Rattle.kernel_model.specs.Boot.{filled_pages, first_byte, last_end, loaded, pages_in, part_end, part_start, with_numbers};
 ghost use Rattle.space_loading.specs.Pages.{earlier, HasPart, next_page};
@@ -97,20 +98,7 @@ fn part(segment: &Segment, page: u64) -> (u64, u64)
     )
 }
 
-// The byte that the loads have at an address, 0 where none has one.
-fn loaded(segments: &[Segment], address: u64) -> u8
-    requires { All IsBoundedSegment segments.now }
-    ensures { result ≡ loaded segments.now address }
-{
-    for segment in segments {
-        if address >= segment.vaddr && address - segment.vaddr < segment.bytes.len() as u64 {
-            return segment.bytes.as_slice()[(address - segment.vaddr) as usize];
-        }
-    }
-    0
-}
-
-// The bytes that the loads have from an address to before another.
+// The bytes that the loads have from an address to before another, 0 where none has one.
 pub(crate) fn loaded_between(
     alloc: Global,
     segments: &[Segment],
@@ -119,11 +107,35 @@ pub(crate) fn loaded_between(
 ) -> Result<Bytes, NoMemory>
     requires bounded { All IsBoundedSegment segments.now }
     requires ordered { first ≤ end }
+    requires low { end ≤ 2 ^ 38 }
     ensures { IfOk result (λ bytes. bytes ≡ bytes_at (record { areas = []; byte = loaded segments.now }) first (end - first)) }
 {
-    let mut bytes = Vec::new(alloc);
-    for address in first..end {
-        bytes.push(loaded(segments, address))?;
+    let mut bytes = vec![in alloc; 0; (end - first) as usize]?;
+    for i in (0..segments.len()).rev() {
+        lay(bytes.as_mut_slice(), first, &segments[i]);
     }
     Ok(Bytes::from_vec(bytes)?)
+}
+
+// Lays the bytes of a load over bytes that start at an address.
+fn lay(bytes: &mut [u8], first: u64, segment: &Segment)
+    requires bounded { IsBoundedSegment segment.now }
+    requires low { first + length bytes.old ≤ 2 ^ 38 }
+    ensures { (space : Space) → bytes.old ≡ bytes_at space first (length bytes.old) → bytes.new ≡ bytes_at (with_bytes space segment.now.vaddr segment.now.bytes) first (length bytes.old) }
+{
+    let from = first.max(segment.vaddr);
+    let to = (first + bytes.len() as u64).min(segment.vaddr + segment.bytes.len() as u64);
+    if from < to {
+        let skipped = (from - segment.vaddr) as usize;
+        let piece = &segment.bytes.as_slice()[skipped..skipped + (to - from) as usize];
+        put(bytes, (from - first) as usize, piece);
+    }
+}
+
+// Puts bytes in place of others, starting at an offset.
+fn put(bytes: &mut [u8], off: usize, piece: &[u8])
+    requires { off + length piece.now ≤ length bytes.old }
+    ensures { bytes.new ≡ laid_over bytes.old off piece.now }
+{
+    bytes[off..off + piece.len()].copy_from_slice(piece);
 }

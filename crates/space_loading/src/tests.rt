@@ -140,7 +140,7 @@ const HEADER: [u8; 64] = [
     0, 0, 0, 0, 64, 0, 56, 0, 2, 0, 0, 0, 0, 0, 0, 0,
 ];
 
-// The program header of a load with these flags, at this offset and address, of so many bytes.
+// The program header of a load with these flags, at this offset and address, with these bytes in the file and in memory.
 fn push_load(
     bytes: &mut Vec<u8>,
     flags: u8,

@@ -2,12 +2,16 @@ use Rattle.std.proofs.Common.{◌∙◌, [], ◌∷◌, arith}
 use Rattle.kernel_model.specs.Boot.{loaded}
 use Rattle.linux_model.specs.Loading.{page_fill}
 use Rattle.space_loading.proofs.Bytes.{fills_page}
-use Rattle.space_loading.proofs.Parts.{has_bytes}
+use Rattle.space_loading.proofs.Parts.{has_bytes, last_below}
 use Rattle.space_loading.proofs.fills.fill_page.Goals as goal
 
 pub loaded_between-requires-clause-ordered : goal.loaded_between-requires-clause-ordered
 loaded_between-requires-clause-ordered g c =
     omega (arith, has_bytes c.args.segments.now c.args.page c.requires.part, c.first_byte-first.ensures, c.last_end.ensures)
+
+pub loaded_between-requires-clause-low : goal.loaded_between-requires-clause-low
+loaded_between-requires-clause-low g c =
+    omega (arith, last_below c.args.segments.now c.args.page, c.last_end.ensures, c.requires.low)
 
 pub returns-in_err-bytes-clause-stops : goal.returns-in_err-bytes-clause-stops
 returns-in_err-bytes-clause-stops g c =

@@ -1,8 +1,8 @@
-use Rattle.std.proofs.Common.{◌≡◌, ◌-◌, []}
+use Rattle.std.proofs.Common.{◌≡◌, ◌-◌, [], drop}
 use Rattle.lego_base.specs.Space.{bytes_at}
 use Rattle.kernel_model.specs.Boot.{loaded}
 use Rattle.space_loading.proofs.pages.loaded_between.Given as goal
 
--- the bytes so far
-abbrev pub invariant-loop-address : goal.invariant-loop-address
-invariant-loop-address l = l.bytes.items ≡ bytes_at (record { areas = []; byte = loaded l.segments }) l.first (l.address - l.first)
+-- the bytes of the loads from here on
+abbrev pub invariant-loop-i : goal.invariant-loop-i
+invariant-loop-i l = l.bytes.items ≡ bytes_at (record { areas = []; byte = loaded (drop l.i l.segments) }) l.first (l.end - l.first)
