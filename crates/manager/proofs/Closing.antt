@@ -164,21 +164,21 @@ sweeps : (b : Bool) (m : ℕ) (pipes : List (Option (List ℕ))) (r w r' w' : �
     → ((n : ℕ) → (m ≡ n → ⊥) → r' n + w' n ≡ r n + w n) → (0 < r m + w m) → Left pipes r w → Left (cond b (freed pipes m) pipes) r' w'
 sweeps true m pipes r w r' w' none some others had l = record {
   there = λ n pos. elim (eqb m n) as (λ c. eqb m n ≡ c → is_some (slot (freed pipes m) n) ≡ true) [
-    true ↦ λ e. let same : m ≡ n = eqb-true m n e in let zero = ap (λ (k : ℕ). r' k + w' k) same in let none = none refl in absurd (omega (arith, none, zero, pos))
+    | true ↦ λ e. let same : m ≡ n = eqb-true m n e in let zero = ap (λ (k : ℕ). r' k + w' k) same in let none = none refl in absurd (omega (arith, none, zero, pos))
     | false ↦ λ e. let ne = eqb-false m n e in ap (λ (o : Option (List ℕ)). is_some o) (slot_other pipes m n None ne) ∙ l.there n (let o = others n ne in omega (arith, o, pos))
   ] refl;
   ended = λ n is. elim (eqb m n) as (λ c. eqb m n ≡ c → 0 < r' n + w' n) [
-    true ↦ λ e. let same : m ≡ n = eqb-true m n e in let gone : is_some (slot (freed pipes m) n) ≡ false = ap (λ (k : ℕ). is_some (slot (freed pipes m) k)) (sym same) ∙ ap (λ (o : Option (List ℕ)). is_some o) (freed_none pipes m) in absurd (cc (gone, is))
+    | true ↦ λ e. let same : m ≡ n = eqb-true m n e in let gone : is_some (slot (freed pipes m) n) ≡ false = ap (λ (k : ℕ). is_some (slot (freed pipes m) k)) (sym same) ∙ ap (λ (o : Option (List ℕ)). is_some o) (freed_none pipes m) in absurd (cc (gone, is))
     | false ↦ λ e. let ne = eqb-false m n e in let o = others n ne in let old = l.ended n (ap (λ (o : Option (List ℕ)). is_some o) (sym (slot_other pipes m n None ne)) ∙ is) in omega (arith, o, old)
   ] refl;
 }
 sweeps false m pipes r w r' w' none some others had l = record {
   there = λ n pos. elim (eqb m n) as (λ c. eqb m n ≡ c → is_some (slot pipes n) ≡ true) [
-    true ↦ λ e. let same : m ≡ n = eqb-true m n e in ap (λ (k : ℕ). is_some (slot pipes k)) (sym same) ∙ l.there m had
+    | true ↦ λ e. let same : m ≡ n = eqb-true m n e in ap (λ (k : ℕ). is_some (slot pipes k)) (sym same) ∙ l.there m had
     | false ↦ λ e. let ne = eqb-false m n e in l.there n (let o = others n ne in omega (arith, o, pos))
   ] refl;
   ended = λ n is. elim (eqb m n) as (λ c. eqb m n ≡ c → 0 < r' n + w' n) [
-    true ↦ λ e. let same : m ≡ n = eqb-true m n e in let some = some refl in subst (λ (k : ℕ). 0 < r' k + w' k) same some
+    | true ↦ λ e. let same : m ≡ n = eqb-true m n e in let some = some refl in subst (λ (k : ℕ). 0 < r' k + w' k) same some
     | false ↦ λ e. let ne = eqb-false m n e in let o = others n ne in let old = l.ended n is in omega (arith, o, old)
   ] refl;
 }

@@ -71,7 +71,7 @@ death_refers n dead status heir descs (p ∷ procs) none f =
     kept_or (stays q) n q p procs (filter stays (map (orphaned dead heir) (at_pid dead (dead_process status) procs)))
     (orphan_fds (eqb z.parent dead) heir z ∙ dead_fds (eqb p.pid dead) status p)
     (λ goes. dead_none (eqb p.pid dead) descs status p none.0 f.0
-      (ap (λ (s : State). is_live s) (sym (orphan_state (eqb z.parent dead) heir z)) ∙ (parts_false (not (q.parent == 0)) (is_live q.state) goes).1))
+    (ap (λ (s : State). is_live s) (sym (orphan_state (eqb z.parent dead) heir z)) ∙ (parts_false (not (q.parent == 0)) (is_live q.state) goes).1))
     (death_refers n dead status heir descs procs none.1 f.1)
 
 none_at : (pid last : ℕ) (procs : List Process) → PidsRise 0 last procs → holds_some (λ e. true) (fds_of (process procs pid)) ≡ false → NoneOpen pid procs
@@ -94,11 +94,11 @@ dead_sound t d p dead status closed s =
       counted = record {
         pids = death_rises dead status t.last t.procs c.pids;
         few =
-          let left = few_left stays (map (orphaned dead h) (at_pid dead (dead_process status) t.procs)) in
-          let mapped = length_map (orphaned dead h) (at_pid dead (dead_process status) t.procs) in
-          let long = length_at (dead_process status) dead t.procs in
-          let few = c.few in
-          omega (arith, left, mapped, long, few);
+            let left = few_left stays (map (orphaned dead h) (at_pid dead (dead_process status) t.procs)) in
+            let mapped = length_map (orphaned dead h) (at_pid dead (dead_process status) t.procs) in
+            let long = length_at (dead_process status) dead t.procs in
+            let few = c.few in
+            omega (arith, left, mapped, long, few);
         procs = death_fits d.descs dead status t.procs none c.procs;
         refs = λ n. c.refs n ∙ sym (death_refers n dead status h d.descs t.procs none c.procs);
         reading = c.reading;
@@ -176,6 +176,7 @@ reaped_sound (Child pid status) t d p parent want is s = at (has_child parent (c
     pid_in : Reaped → ℕ
     pid_in (Child pid status) = pid.0
     pid_in other = 0
+
     at : (has : Bool) (found : Option Dead) → dead_child parent (cast_unsigned w64 want) t.procs ≡ found → Child pid status ≡ reaped_of has found → Sound (without_reaped (Child pid status) t) d p
     at has (Some dead) e is =
         let same : pid.0 ≡ dead.pid = ap pid_in is in

@@ -68,11 +68,11 @@ forked_sound t d p t' d' parent q cpu brk fds is room same table descs more s =
         few = let long = length_more t.procs child in omega (arith, long, lt);
         procs = procs_more d.descs t.procs child c.procs (record { slots = f.slots; entries = f.entries; zombie = λ dead. cc dead });
         refs = λ n.
-          let old = c.refs n in
-          let new = more n in
-          let all = references-append n t.procs child in
-          let own = ap (slots_with (refers n)) same in
-          omega (arith, old, new, all, own);
+            let old = c.refs n in
+            let new = more n in
+            let all = references-append n t.procs child in
+            let own = ap (slots_with (refers n)) same in
+            omega (arith, old, new, all, own);
         reading = c.reading;
         writing = c.writing;
         there = c.there;

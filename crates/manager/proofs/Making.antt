@@ -126,10 +126,10 @@ pipes_few (None ∷ descs) pipes ended = pipes_few descs pipes (λ n is. let e =
 pipes_few (Some d ∷ descs) pipes ended =
     let one : OneEnd d.object = one_of d.object in
     let rest = pipes_few descs (freed pipes one.pipe) (λ n is.
-      let was = freed_slot pipes one.pipe n is in
-      let e = ended n was.0 in
-      let none = one.others n was.1 in
-      omega (arith, e, none)) in
+    let was = freed_slot pipes one.pipe n is in
+    let e = ended n was.0 in
+    let none = one.others n was.1 in
+    omega (arith, e, none)) in
     let less = freed_held pipes one.pipe in
     omega (arith, rest, less)
 
@@ -165,9 +165,9 @@ made_ended d d' p p' x y pipe at reads descs pipes ended = λ n is.
     let rx = with-next (reads_from n) x d.descs in
     let wx = with-next (writes_to n) x d.descs in
     elim (next_or p.pipes n (ap (λ (s : List (Option (List ℕ))). is_some (slot s n)) (sym pipes) ∙ is)) [
-      inl e ↦
-        let one : one_if (is_reading_end n x.object) ≡ 1 = ap (λ (m : ℕ). one_if (is_reading_end m x.object)) (sym (at ∙ next_first p.pipes ∙ e)) ∙ ap one_if reads in
-        omega (arith, r, w, ry, wy, rx, wx, one)
+      | inl e ↦
+          let one : one_if (is_reading_end n x.object) ≡ 1 = ap (λ (m : ℕ). one_if (is_reading_end m x.object)) (sym (at ∙ next_first p.pipes ∙ e)) ∙ ap one_if reads in
+          omega (arith, r, w, ry, wy, rx, wx, one)
       | inr old ↦ let some = ended n old in omega (arith, r, w, ry, wy, rx, wx, some)
     ]
 
@@ -209,6 +209,7 @@ two_are_free fds reading writing left is = at (lowest_free fds 0) refl is
     then_at : (a : ℕ) (o : Option ℕ) → lowest_free fds 0 ≡ Some a → lowest_free fds (a + 1) ≡ o → ◌≡◌ {A = Result (ℕ × ℕ) FdFault} (Ok (reading, writing)) (second_of a o left) → TwoFree fds reading writing left
     then_at a None first e is = cc is
     then_at a (Some c) first e is = room_for (ltb left 2) fds reading writing left a c refl first e is
+
     at : (o : Option ℕ) → lowest_free fds 0 ≡ o → ◌≡◌ {A = Result (ℕ × ℕ) FdFault} (Ok (reading, writing)) (two_of o (lowest_free fds) left) → TwoFree fds reading writing left
     at None e is = cc is
     at (Some a) e is = then_at a (lowest_free fds (a + 1)) e refl is

@@ -91,7 +91,7 @@ opened t d p refs readers' writers' pid fd x cloexec alive lt free pipe more rea
       pids = pids_at (at_fd fd (Some e)) (λ q. refl) pid 0 t.last t.procs c.pids;
       few = let long = length_at (at_fd fd (Some e)) pid t.procs in let few = c.few in omega (arith, long, few);
       procs = procs_open (with_next x d.descs) pid fd e t.procs (alive_at t d p pid c alive) (ap (λ (o : Option Description). is_some o) (next_holds x d.descs))
-        (procs_grow d.descs (with_next x d.descs) (next_keeps x d.descs) t.procs c.procs);
+          (procs_grow d.descs (with_next x d.descs) (next_keeps x d.descs) t.procs c.procs);
       refs = λ n. more n ∙ ap (λ (m : ℕ). m + one_if (next_slot d.descs == n)) (c.refs n) ∙ sym (refers_more t d p pid fd e n c alive lt free);
       reading = λ n. reading n ∙ ap (λ (m : ℕ). m + one_if (is_reading_end n x.object)) (c.reading n) ∙ sym (reads_more n x d.descs);
       writing = λ n. writing n ∙ ap (λ (m : ℕ). m + one_if (is_writing_end n x.object)) (c.writing n) ∙ sym (writes_more n x d.descs);

@@ -137,8 +137,9 @@ ready_here k procs place pid got known at ready = by (slice_get procs place) ref
     pids : (got : List Pid) (pid : Pid) (rest : List ℕ) → map (λ (p : Pid). p.0) (got ++ pid ∷ []) ++ rest ≡ map (λ (p : Pid). p.0) got ++ pid.0 ∷ rest
     pids [] pid rest = refl
     pids (q ∷ got) pid rest = ap (λ (l : List ℕ). q.0 ∷ l) (pids got pid rest)
+
     by : (o : Option Process) → slice_get procs place ≡ o → option_map {U = Pid × Proc} (λ p. (record { 0 = p.pid }, proc_of p)) o ≡ Some (pid, known) → IfSome o (λ p. true ≡ is_ready k p)
-      → map (λ (p : Pid). p.0) (got ++ pid ∷ []) ++ ready_in k (drop (place + 1) procs) ≡ map (λ (p : Pid). p.0) got ++ ready_in k (drop place procs)
+        → map (λ (p : Pid). p.0) (got ++ pid ∷ []) ++ ready_in k (drop (place + 1) procs) ≡ map (λ (p : Pid). p.0) got ++ ready_in k (drop place procs)
     by None e at ready = cc at
     by (Some p) e at ready =
         let is : IsKnown pid known p = known_at (Some p) pid known at in
@@ -151,7 +152,7 @@ pub waits_here : (k : Kernel) (procs : List Process) (place : ℕ) (pid : Pid) (
 waits_here k procs place pid known at ready = by (slice_get procs place) refl at ready
   where
     by : (o : Option Process) → slice_get procs place ≡ o → option_map {U = Pid × Proc} (λ p. (record { 0 = p.pid }, proc_of p)) o ≡ Some (pid, known) → IfSome o (λ p. false ≡ is_ready k p)
-      → ready_in k (drop (place + 1) procs) ≡ ready_in k (drop place procs)
+        → ready_in k (drop (place + 1) procs) ≡ ready_in k (drop place procs)
     by None e at ready = cc at
     by (Some p) e at ready =
         ap (λ (b : Bool). cond b (p.pid ∷ ready_in k (drop (place + 1) procs)) (ready_in k (drop (place + 1) procs))) ready

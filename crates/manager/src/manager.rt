@@ -31,6 +31,7 @@ use std::marker::Model;
 
 // Flags of open(2).
 const O_WRONLY: u32 = 1;
+
 const O_CLOEXEC: u32 = 0x80000;
 
 /// What a descriptor is open on.
@@ -100,6 +101,16 @@ impl Manager {
         ensures { result ≡ option_map proc_of (process self.now.procs pid.0) }
     {
         self.procs.get(pid)
+    }
+
+    /// Whether a process lives.
+    pub fn lives(&self, pid: Pid) -> bool
+        ensures { result ≡ is_alive pid.0 self.now }
+    {
+        match self.procs.get(pid) {
+            Some(known) => known.status.is_none(),
+            None => false,
+        }
     }
 
     /// The parent of a process that lives; 0 where it has none.
@@ -174,16 +185,19 @@ impl Manager {
         self.procs.set_waiting(pid, Some(waiting));
     }
 
-    /// What a descriptor of a process is open on; `None` exactly where it isn't open.
+    /// What a descriptor of a process is open on; `None` exactly where it isn't open. The description is there, and the pipe of
+    /// an end.
     pub fn opened(&self, pid: Pid, fd: u64) -> Option<Opened>
         ensures entry { option_map entry_of result ≡ slot (fds_of (process self.now.procs pid.0)) fd }
         ensures is { (k : Kernel) → option_map open_of result ≡ option_and_then (λ p. opened p fd (with_managed self.now k)) (process self.now.procs pid.0) }
+        ensures there { IfSome result (λ o. slot self.now.descs o.desc ≡ Some o.is) }
+        ensures pipe { IfSome result (λ o. PipeThere self.now.pipes o.is.object) }
     {
         let entry = self.procs.fd(pid, fd)?;
-        let is = self.descs.get(entry.desc)?;
+        let description = self.descs.get(entry.desc)?;
         Some(Opened {
             desc: entry.desc,
-            is,
+            is: description,
             cloexec: entry.cloexec,
         })
     }
@@ -343,7 +357,12 @@ impl Manager {
     }
 
     /// A new pipe, as pipe2(2) makes it: the two lowest free descriptors of a process that lives, the one for reading first.
-    pub fn add_pipe(&mut self, alloc: Global, pid: Pid, cloexec: bool) -> Result<(u32, u32), FdFault>
+    pub fn add_pipe(
+        &mut self,
+        alloc: Global,
+        pid: Pid,
+        cloexec: bool,
+    ) -> Result<(u32, u32), FdFault>
         requires { is_alive pid.0 self.old ≡ true }
         ensures fds { IfOk result (λ fds. fds_for_two pid.0 self.old ≡ Ok fds) }
         ensures ok { IfOk result (λ fds. self.new ≡ managed_after_all (pipe_effects pid.0 fds cloexec self.old) self.old) }
@@ -361,7 +380,10 @@ impl Manager {
         ensures within { IfOk result (λ fds. fds.1 < DESCRIPTORS) }
     {
         let reading = self.procs.lowest_free(pid, 0).ok_or(FdFault::Emfile)?;
-        let writing = self.procs.lowest_free(pid, reading + 1).ok_or(FdFault::Emfile)?;
+        let writing = self
+            .procs
+            .lowest_free(pid, reading + 1)
+            .ok_or(FdFault::Emfile)?;
         if self.descs.room() < 2 {
             return Err(FdFault::Enfile);
         }
@@ -369,7 +391,14 @@ impl Manager {
     }
 
     // A pipe with its ends at two free descriptors.
-    fn make_pipe(&mut self, alloc: Global, pid: Pid, reading: u32, writing: u32, cloexec: bool) -> Result<(), NoMemory>
+    fn make_pipe(
+        &mut self,
+        alloc: Global,
+        pid: Pid,
+        reading: u32,
+        writing: u32,
+        cloexec: bool,
+    ) -> Result<(), NoMemory>
         requires alive { is_alive pid.0 self.old ≡ true }
         requires reading { slot (fds_of (process self.old.procs pid.0)) reading ≡ None }
         requires writing { slot (fds_of (process self.old.procs pid.0)) writing ≡ None }
@@ -538,7 +567,15 @@ fn file_left(descs: &Descs, object: Object) -> Option<FileNo>
 }
 
 // A new description for a free descriptor of a process that lives.
-fn open_in(procs: &mut Procs, descs: &mut Descs, pipes: &mut Pipes, pid: Pid, fd: u32, description: Description, cloexec: bool)
+fn open_in(
+    procs: &mut Procs,
+    descs: &mut Descs,
+    pipes: &mut Pipes,
+    pid: Pid,
+    fd: u32,
+    description: Description,
+    cloexec: bool,
+)
     requires counted { Counted procs.old descs.old pipes.old }
     requires alive { picks (λ p. is_live p.state) (process procs.old.procs pid.0) ≡ true }
     requires fd { fd < DESCRIPTORS }

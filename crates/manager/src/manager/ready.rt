@@ -18,9 +18,13 @@ use std::alloc::Global;
 
 // Numbers of the calls that wait.
 const READ: u64 = 63;
+
 const WRITE: u64 = 64;
+
 const READV: u64 = 65;
+
 const WRITEV: u64 = 66;
+
 const WAIT4: u64 = 260;
 
 /// pipe(7): as many bytes, or fewer, go into a pipe at once.

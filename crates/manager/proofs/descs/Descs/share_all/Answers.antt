@@ -20,19 +20,19 @@ pub loop-fd-preserved : goal.loop-fd-preserved
 loop-fd-preserved c =
     let within : c.loop-fd.fd < length c.args.fds.now = omega (arith, c.requires.slots) in
     elim c.match-get.branch [
-      in-Some w ↦
-        let is_open : slot c.args.fds.now c.loop-fd.fd ≡ Some w.in-Some.entry = search rules in
-        record {
-          descs = ap (λ d. d.descs) w.self-is ∙ w.share.ensures.descs ∙ c.loop-fd.invariant.descs;
-          refs = λ n. shared_next n (slice_index c.loop-fd.self.refs n) (slice_index c.match-get.self.refs n) _ c.args.fds.now c.loop-fd.fd (Some w.in-Some.entry) within is_open
-            (ap (λ d. slice_index d.refs n) w.self-is ∙ w.share.ensures.refs n) (c.loop-fd.invariant.refs n);
-        }
+      | in-Some w ↦
+          let is_open : slot c.args.fds.now c.loop-fd.fd ≡ Some w.in-Some.entry = search rules in
+          record {
+            descs = ap (λ d. d.descs) w.self-is ∙ w.share.ensures.descs ∙ c.loop-fd.invariant.descs;
+            refs = λ n. shared_next n (slice_index c.loop-fd.self.refs n) (slice_index c.match-get.self.refs n) _ c.args.fds.now c.loop-fd.fd (Some w.in-Some.entry) within is_open
+                (ap (λ d. slice_index d.refs n) w.self-is ∙ w.share.ensures.refs n) (c.loop-fd.invariant.refs n);
+          }
       | in_default w ↦
-        let free : slot c.args.fds.now c.loop-fd.fd ≡ None = search rules in
-        record {
-          descs = ap (λ d. d.descs) w.self-is ∙ c.loop-fd.invariant.descs;
-          refs = λ n.
-            let same = ap (λ d. slice_index d.refs n) w.self-is in
-            shared_next n (slice_index c.loop-fd.self.refs n) (slice_index c.match-get.self.refs n) _ c.args.fds.now c.loop-fd.fd None within free (omega (arith, same)) (c.loop-fd.invariant.refs n);
-        }
+          let free : slot c.args.fds.now c.loop-fd.fd ≡ None = search rules in
+          record {
+            descs = ap (λ d. d.descs) w.self-is ∙ c.loop-fd.invariant.descs;
+            refs = λ n.
+                let same = ap (λ d. slice_index d.refs n) w.self-is in
+                shared_next n (slice_index c.loop-fd.self.refs n) (slice_index c.match-get.self.refs n) _ c.args.fds.now c.loop-fd.fd None within free (omega (arith, same)) (c.loop-fd.invariant.refs n);
+          }
     ]

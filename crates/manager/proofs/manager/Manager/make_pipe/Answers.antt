@@ -77,6 +77,6 @@ invariant_of-self-2 c =
     record {
       counted = c.open_in-2.ensures.counted;
       ended = made_ended d c.open_in-2.new.descs p c.open_in-2.new.pipes x y pipe c.in_ok-pipe.ensures.slot (eq-eqb pipe pipe refl)
-        (c.open_in-2.ensures.descs ∙ ap (with_next y) c.open_in.ensures.descs)
-        (c.open_in-2.ensures.pipes ∙ c.open_in.ensures.pipes ∙ ap (λ (p : PipeTable). p.pipes) made) c.self.invariant.ended;
+          (c.open_in-2.ensures.descs ∙ ap (with_next y) c.open_in.ensures.descs)
+          (c.open_in-2.ensures.pipes ∙ c.open_in.ensures.pipes ∙ ap (λ (p : PipeTable). p.pipes) made) c.self.invariant.ended;
     }

@@ -19,19 +19,19 @@ loop-place-preserved c = λ k.
     let at : c.at.result ≡ option_map {U = Pid × Proc} (λ p. (record { 0 = p.pid }, proc_of p)) (slice_get procs place) =
     c.at.ensures ∙ ap (λ (m : Managed). option_map {U = Pid × Proc} (λ p. (record { 0 = p.pid }, proc_of p)) (slice_get m.procs place)) c.self.view_is in
     elim c.match-at.branch [
-      in-Some+then-is_ready+in_ok-push w ↦
-        let more : c.match-at.ready.items ≡ c.loop-place.ready.items ++ w.in-Some.pid ∷ [] = ap (λ (v : Vec Pid Global). v.items) w.ready-is ∙ w.in_ok-push.ensures.items in
-        ap (λ (pids : List Pid). map (λ (pid : Pid). pid.0) pids ++ ready_in K (drop (place + 1) procs)) more
-        ∙ ready_here K procs place w.in-Some.pid c.loop-place.ready.items w.in-Some.known (sym at ∙ w.in-Some.is) (w.if-is_ready.ensures k)
-        ∙ c.loop-place.invariant k
+      | in-Some+then-is_ready+in_ok-push w ↦
+          let more : c.match-at.ready.items ≡ c.loop-place.ready.items ++ w.in-Some.pid ∷ [] = ap (λ (v : Vec Pid Global). v.items) w.ready-is ∙ w.in_ok-push.ensures.items in
+          ap (λ (pids : List Pid). map (λ (pid : Pid). pid.0) pids ++ ready_in K (drop (place + 1) procs)) more
+          ∙ ready_here K procs place w.in-Some.pid c.loop-place.ready.items w.in-Some.known (sym at ∙ w.in-Some.is) (w.if-is_ready.ensures k)
+          ∙ c.loop-place.invariant k
       | in-Some+else-is_ready w ↦
-        ap (λ (v : Vec Pid Global). map (λ (pid : Pid). pid.0) v.items ++ ready_in K (drop (place + 1) procs)) w.ready-is
-        ∙ ap (λ (rest : List ℕ). map (λ (pid : Pid). pid.0) c.loop-place.ready.items ++ rest) (waits_here K procs place w.in-Some.pid w.in-Some.known (sym at ∙ w.in-Some.is) (w.if-is_ready.ensures k))
-        ∙ c.loop-place.invariant k
+          ap (λ (v : Vec Pid Global). map (λ (pid : Pid). pid.0) v.items ++ ready_in K (drop (place + 1) procs)) w.ready-is
+          ∙ ap (λ (rest : List ℕ). map (λ (pid : Pid). pid.0) c.loop-place.ready.items ++ rest) (waits_here K procs place w.in-Some.pid w.in-Some.known (sym at ∙ w.in-Some.is) (w.if-is_ready.ensures k))
+          ∙ c.loop-place.invariant k
       | in_default w ↦
-        ap (λ (v : Vec Pid Global). map (λ (pid : Pid). pid.0) v.items ++ ready_in K (drop (place + 1) procs)) w.ready-is
-        ∙ ap (λ (rest : List ℕ). map (λ (pid : Pid). pid.0) c.loop-place.ready.items ++ rest) (none_here K procs place (sym at ∙ w.in_default.is))
-        ∙ c.loop-place.invariant k
+          ap (λ (v : Vec Pid Global). map (λ (pid : Pid). pid.0) v.items ++ ready_in K (drop (place + 1) procs)) w.ready-is
+          ∙ ap (λ (rest : List ℕ). map (λ (pid : Pid). pid.0) c.loop-place.ready.items ++ rest) (none_here K procs place (sym at ∙ w.in_default.is))
+          ∙ c.loop-place.invariant k
     ]
 
 pub returns : goal.returns
