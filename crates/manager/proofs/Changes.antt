@@ -1,5 +1,5 @@
 -- The tables stay sound where a process changes in what they don't count, where a pipe's bytes change, and where an offset does.
-use Rattle.std.proofs.Common.{◌≡◌, ℕ, zero, suc, ◌+◌, ◌≤◌, ◌<◌, Bool, true, false, cond, eqb, refl, sym, ◌∙◌, ap, subst, List, [], ◌∷◌, length, slice_index, slice_set, Option, Some, None, is_some, arith}
+use Rattle.std.proofs.Common.{◌≡◌, ℕ, zero, suc, ◌+◌, ◌<◌, Bool, true, false, cond, eqb, refl, sym, ◌∙◌, ap, subst, List, [], ◌∷◌, slice_set, Option, Some, None, is_some, arith}
 use Rattle.rv64_step.specs.declared.cpu.Cpu.{Cpu}
 use Rattle.kernel_objects.specs.declared.descriptor.Description.{Description}
 use Rattle.kernel_objects.specs.declared.process.Brk.{Brk}
@@ -12,8 +12,8 @@ use Rattle.linux_model.specs.Fits.{ProcessFits}
 use Rattle.linux_model.proofs.fits.Processes.{pids_at, procs_each, procs_grow}
 use Rattle.linux_model.proofs.fits.Files.{sought_keeps}
 use Rattle.proc_table.specs.Entries.{Table}
-use Rattle.manager.specs.Counting.{one_if, slots_with, references, readers, writers, reads_from, writes_to}
-use Rattle.manager.specs.Sound.{Counted, Sound}
+use Rattle.manager.specs.Counting.{one_if, readers, writers, reads_from, writes_to}
+use Rattle.manager.specs.Sound.{Sound}
 use Rattle.manager.specs.Tables.{DescTable, PipeTable}
 use Rattle.manager.proofs.References.{references_at, length_at}
 

@@ -1,5 +1,5 @@
 -- What `close` makes of the tables, as it finds them: whether its description ended, and which file may go.
-use Rattle.std.proofs.Common.{◌≡◌, ℕ, ◌+◌, ◌≤◌, ◌<◌, Bool, true, false, cond, eqb, ◌==◌, refl, sym, ◌∙◌, ap, subst, List, [], ◌∷◌, slice_index, Option, Some, None, is_some, arith}
+use Rattle.std.proofs.Common.{◌≡◌, ℕ, ◌+◌, ◌≤◌, Bool, true, false, cond, ◌==◌, refl, sym, ◌∙◌, ap, subst, List, [], ◌∷◌, slice_index, Option, Some, None, is_some, arith}
 use Rattle.std.specs.Prelude.{option_and_then}
 use Rattle.std.proofs.lemmas.Bool.{eq-eqb}
 use Rattle.lego_base.specs.declared.ids.FileNo.{FileNo}
@@ -8,10 +8,10 @@ use Rattle.kernel_objects.specs.declared.descriptor.Description.{Description}
 use Rattle.kernel_objects.specs.declared.descriptor.FdEntry.{FdEntry}
 use Rattle.kernel_objects.specs.declared.descriptor.Object.{Object}
 use Rattle.kernel_objects.specs.declared.descriptor.Object.TheVariants.{PipeRead, PipeWrite, Input, Output, Regular}
-use Rattle.kernel_objects.specs.Slots.{slot, freed, holds_some}
-use Rattle.linux_model.specs.State.{Kernel, Process, unbooted}
-use Rattle.linux_model.specs.Processes.{at_pid, process, fds_of, has_file, is_file_object, is_reading_end, is_writing_end}
-use Rattle.linux_model.specs.Effects.{Effect, Closes, FreesFile, apply, at_fd}
+use Rattle.kernel_objects.specs.Slots.{slot, freed}
+use Rattle.linux_model.specs.State.{Kernel, Process}
+use Rattle.linux_model.specs.Processes.{process, fds_of, has_file, is_file_object, is_reading_end, is_writing_end}
+use Rattle.linux_model.specs.Effects.{Effect, Closes, FreesFile, apply}
 use Rattle.linux_model.specs.Descriptors.{Open, closing, freeing, file_behind, file_of, file_open_on, open_on}
 use Rattle.linux_model.specs.Managed.{Managed, managed_in, managed_after, with_managed}
 use Rattle.linux_model.proofs.Managing.{managed_alone}
@@ -22,7 +22,6 @@ use Rattle.manager.specs.Sound.{Counted, Sound, managed_of}
 use Rattle.manager.specs.Tables.{DescTable, PipeTable, PipeThere, pipes_left}
 use Rattle.manager.specs.Words.{file_left, frees}
 use Rattle.manager.proofs.Closing.{closed_shared, closed_last, still_managed, last_managed, closed_table}
-use Rattle.manager.proofs.Open.{entry_there, found_open}
 
 -- ---- whether it ended
 

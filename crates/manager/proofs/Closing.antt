@@ -1,25 +1,25 @@
 -- A descriptor is closed: the counts stay right, and what comes of it is linux_model's effect.
-use Rattle.std.proofs.Common.{◌≡◌, ℕ, zero, suc, ◌+◌, ◌-◌, ◌≤◌, ◌<◌, Bool, true, false, not, cond, eqb, ltb, ◌||◌, ◌&&◌, ◌==◌, refl, sym, ◌∙◌, ap, subst, List, [], ◌∷◌, length, slice_index, slice_set, Option, Some, None, is_some, arith}
+use Rattle.std.proofs.Common.{◌≡◌, ℕ, zero, suc, ◌+◌, ◌≤◌, ◌<◌, Bool, true, false, not, cond, eqb, ltb, ◌||◌, ◌&&◌, ◌==◌, refl, sym, ◌∙◌, ap, subst, List, [], ◌∷◌, length, slice_index, slice_set, Option, Some, None, is_some, arith}
 use Rattle.std.proofs.lemmas.Bool.{eqb-true, eqb-false, eq-eqb, ne_eqb, le-ltb, lt-ltb}
 use Rattle.lego_base.specs.declared.report.Exit.{Exit}
 use Rattle.kernel_objects.specs.declared.descriptor.Description.{Description}
 use Rattle.kernel_objects.specs.declared.descriptor.FdEntry.{FdEntry}
 use Rattle.kernel_objects.specs.declared.descriptor.Object.{Object}
 use Rattle.kernel_objects.specs.declared.descriptor.Object.TheVariants.{PipeRead, PipeWrite, Input, Output, Regular}
-use Rattle.kernel_objects.specs.Slots.{slot, held, picks, freed}
+use Rattle.kernel_objects.specs.Slots.{slot, picks, freed}
 use Rattle.linux_model.specs.State.{Kernel, Process, unbooted}
 use Rattle.linux_model.specs.Processes.{at_pid, process, fds_of, is_referred, is_reading_end, is_writing_end, has_reader, has_writer}
 use Rattle.linux_model.specs.Effects.{Closes, at_fd, desc_at, let_go, description_ends, object_ends, pipe_ends}
-use Rattle.linux_model.specs.Fits.{PidsRise, ProcsFit}
+use Rattle.linux_model.specs.Fits.{PidsRise}
 use Rattle.linux_model.specs.Managed.{Managed, managed_in, managed_after, with_managed}
 use Rattle.linux_model.proofs.fits.Processes.{pids_at, procs_each, procs_without, closes_fits, process_fits}
 use Rattle.linux_model.proofs.fits.Slots.{slot_other}
 use Rattle.proc_table.specs.Entries.{Table}
-use Rattle.manager.specs.Counting.{one_if, slots_with, references, refers, readers, writers, reads_from, writes_to, OneMore, OneFewer}
-use Rattle.manager.specs.Sound.{Counted, Ended, Sound, managed_of}
+use Rattle.manager.specs.Counting.{one_if, references, refers, readers, writers, reads_from, writes_to, OneFewer}
+use Rattle.manager.specs.Sound.{Counted, Sound, managed_of}
 use Rattle.manager.specs.Tables.{DescTable, PipeTable, swept, pipes_left}
 use Rattle.manager.proofs.Held.{with-set, with_some, slot_within}
-use Rattle.manager.proofs.Open.{found_open, entry_there}
+use Rattle.manager.proofs.Open.{found_open}
 use Rattle.manager.proofs.References.{length_at, references_fd, at_above, referred}
 
 -- ---- a descriptor that isn't open

@@ -1,10 +1,9 @@
 -- The tables stay sound where a process dies that has nothing open, and where a zombie is taken.
-use Rattle.std.proofs.Common.{◌≡◌, ℕ, zero, suc, ◌+◌, ◌≤◌, ◌<◌, Bool, true, false, not, cond, eqb, ◌||◌, ◌&&◌, ◌==◌, refl, sym, ◌∙◌, ap, subst, List, [], ◌∷◌, length, map, filter, Option, Some, None, arith}
+use Rattle.std.proofs.Common.{◌≡◌, ℕ, suc, ◌≤◌, ◌<◌, Bool, true, false, not, cond, eqb, ◌==◌, refl, sym, ◌∙◌, ap, subst, List, [], ◌∷◌, length, map, filter, Option, Some, None, arith}
 use Rattle.std.proofs.lemmas.Bool.{eqb-true, not-false}
 use Rattle.kernel_objects.specs.declared.descriptor.Description.{Description}
 use Rattle.kernel_objects.specs.declared.descriptor.FdEntry.{FdEntry}
 use Rattle.kernel_objects.specs.Slots.{holds_some}
-use Rattle.lego_base.specs.declared.ids.Pid.{Pid}
 use Rattle.lego_base.specs.declared.report.Exit.{Exit}
 use Rattle.linux_model.specs.State.{Process, State, Live, Zombie}
 use Rattle.linux_model.specs.Processes.{Dead, at_pid, process, fds_of, is_live, orphaned, heir, stays, after_death, without_process, dead_child, has_child, is_wanted, dead_of, or_else}

@@ -1,22 +1,20 @@
 -- A child shares its parent's descriptions: the counts stay right.
-use Rattle.std.proofs.Common.{◌≡◌, ℕ, zero, suc, ◌+◌, ◌-◌, ◌^◌, ◌≤◌, ◌<◌, Bool, true, false, eqb, leb, refl, sym, ◌∙◌, ap, subst, List, [], ◌∷◌, ◌++◌, length, drop, slice_index, Option, Some, None, is_some, arith}
+use Rattle.std.proofs.Common.{◌≡◌, ℕ, zero, suc, ◌+◌, ◌-◌, ◌^◌, ◌<◌, false, leb, refl, sym, ◌∙◌, ap, subst, List, [], ◌∷◌, ◌++◌, length, drop, slice_index, Option, Some, arith}
 use Rattle.std.specs.Prelude.{IfSome}
 use Rattle.std.proofs.lemmas.Bool.{eqb-true, leb-false}
 use Rattle.lego_base.specs.declared.report.Exit.{Exit}
 use Rattle.rv64_step.specs.declared.cpu.Cpu.{Cpu}
-use Rattle.kernel_objects.specs.declared.descriptor.Description.{Description}
 use Rattle.kernel_objects.specs.declared.descriptor.FdEntry.{FdEntry}
 use Rattle.kernel_objects.specs.declared.process.Brk.{Brk}
 use Rattle.kernel_objects.specs.Slots.{slot, picks}
 use Rattle.linux_model.specs.State.{Kernel, Process, unbooted}
 use Rattle.linux_model.specs.Processes.{process}
 use Rattle.linux_model.specs.Effects.{Forks, forked}
-use Rattle.linux_model.specs.Fits.{EntriesFit, ProcessFits}
-use Rattle.linux_model.specs.Managed.{Managed, managed_in, managed_after, with_managed}
+use Rattle.linux_model.specs.Managed.{managed_in, managed_after, with_managed}
 use Rattle.linux_model.proofs.fits.Processes.{pids_more, procs_more, process_fits}
 use Rattle.linux_model.proofs.fits.Found.{found_pid}
 use Rattle.proc_table.specs.Entries.{Table, new_process, spawned}
-use Rattle.manager.specs.Counting.{one_if, slots_with, references, refers}
+use Rattle.manager.specs.Counting.{one_if, slots_with, refers}
 use Rattle.manager.specs.Sound.{Counted, Sound, managed_of}
 use Rattle.manager.specs.Tables.{DescTable, PipeTable}
 use Rattle.manager.proofs.References.{references_le, references-append, with_le-length}

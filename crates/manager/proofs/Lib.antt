@@ -12,3 +12,4 @@ pub mod Forking
 pub mod Waiting
 pub mod Making
 pub mod Starting
+pub mod Rows

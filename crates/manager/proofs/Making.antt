@@ -1,6 +1,6 @@
 -- Free descriptors, room for a pipe, and what descriptors that were opened before leave.
-use Rattle.std.proofs.Common.{◌≡◌, ℕ, zero, suc, ◌+◌, ◌-◌, ◌≤◌, ◌<◌, ◌⊎◌, inl, inr, Bool, true, false, cond, ltb, eqb, refl, sym, ◌∙◌, ap, subst, List, [], ◌∷◌, ◌++◌, length, slice_index, slice_set, Option, Some, None, is_some, arith, Result, Ok, Err}
-use Rattle.std.proofs.lemmas.Bool.{eqb-true, ne_eqb, ltb-false, eq-eqb}
+use Rattle.std.proofs.Common.{◌≡◌, ℕ, zero, suc, ◌+◌, ◌≤◌, ◌<◌, ◌⊎◌, inl, inr, Bool, true, false, cond, ltb, eqb, refl, sym, ◌∙◌, ap, List, [], ◌∷◌, length, slice_set, Option, Some, None, is_some, arith, Result, Ok, Err}
+use Rattle.std.proofs.lemmas.Bool.{ne_eqb, ltb-false}
 use Rattle.kernel_objects.specs.declared.descriptor.Description.{Description}
 use Rattle.kernel_objects.specs.declared.descriptor.FdEntry.{FdEntry}
 use Rattle.kernel_objects.specs.declared.descriptor.Object.{Object}
@@ -9,12 +9,11 @@ use Rattle.kernel_objects.specs.Slots.{slot, held, picks, freed, free_from, lowe
 use Rattle.linux_model.specs.State.{Process}
 use Rattle.linux_model.specs.Processes.{at_pid, process, fds_of, is_live, is_reading_end, is_writing_end}
 use Rattle.linux_model.specs.Effects.{at_fd}
-use Rattle.linux_model.specs.Fits.{PidsRise}
 use Rattle.linux_model.proofs.fits.Found.{process_at}
-use Rattle.linux_model.proofs.fits.Slots.{next_keeps, next_holds, slot_other}
+use Rattle.linux_model.proofs.fits.Slots.{next_keeps, slot_other}
 use Rattle.proc_table.specs.Entries.{Table}
-use Rattle.manager.specs.Counting.{one_if, slots_with, readers, writers, reads_from, writes_to}
-use Rattle.manager.specs.Sound.{Counted, Ended, Sound}
+use Rattle.manager.specs.Counting.{one_if, readers, writers, reads_from, writes_to}
+use Rattle.manager.specs.Sound.{Counted, Ended}
 use Rattle.manager.specs.Tables.{DescTable, PipeTable}
 use Rattle.manager.specs.Words.{two_of, second_of}
 use Rattle.manager.specs.declared.fault.FdFault.{FdFault}

@@ -1,5 +1,5 @@
 -- Counts of numbers.
-use Rattle.std.proofs.Common.{◌≡◌, ℕ, zero, suc, refl, List, [], ◌∷◌, slice_index, replicate}
+use Rattle.std.proofs.Common.{◌≡◌, ℕ, zero, suc, refl, slice_index, replicate}
 
 -- a list of zeros, and what is past its end
 pub all_zero : (n m : ℕ) → slice_index (replicate n 0) m ≡ 0

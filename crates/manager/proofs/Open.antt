@@ -1,5 +1,5 @@
 -- What a descriptor of a process refers to.
-use Rattle.std.proofs.Common.{◌≡◌, ℕ, Bool, true, false, refl, sym, ◌∙◌, ap, subst, List, [], ◌∷◌, length, Option, Some, None, is_some, arith, ◌<◌}
+use Rattle.std.proofs.Common.{◌≡◌, ℕ, true, false, refl, sym, ◌∙◌, ap, List, Option, Some, None, is_some}
 use Rattle.kernel_objects.specs.declared.descriptor.Description.{Description}
 use Rattle.kernel_objects.specs.declared.descriptor.FdEntry.{FdEntry}
 use Rattle.std.specs.Prelude.{not, option_map}
@@ -11,7 +11,6 @@ use Rattle.linux_model.specs.Processes.{process, fds_of, is_live}
 use Rattle.linux_model.specs.Fits.{ProcsFit}
 use Rattle.linux_model.proofs.fits.Processes.{process_fits}
 use Rattle.linux_model.proofs.fits.Found.{entry_fits}
-use Rattle.manager.proofs.Held.{slot_within}
 
 -- a process that is there, with its descriptors
 pub record Found (procs : List Process) (pid : ℕ) : Type 0 where

@@ -1,21 +1,21 @@
 -- The counts stay right where a descriptor is opened, shared or closed.
-use Rattle.std.proofs.Common.{◌≡◌, ℕ, zero, suc, ◌+◌, ◌-◌, ◌*◌, ◌^◌, ◌≤◌, ◌<◌, Bool, true, false, cond, eqb, ltb, ◌||◌, ◌==◌, refl, sym, ◌∙◌, ap, subst, List, [], ◌∷◌, length, slice_index, slice_set, Option, Some, None, is_some, arith}
+use Rattle.std.proofs.Common.{◌≡◌, ℕ, zero, suc, ◌+◌, ◌-◌, ◌^◌, ◌<◌, Bool, true, ◌==◌, refl, sym, ◌∙◌, ap, subst, List, length, slice_index, Option, Some, None, is_some, arith}
 use Rattle.kernel_objects.specs.declared.descriptor.Description.{Description}
 use Rattle.kernel_objects.specs.declared.descriptor.FdEntry.{FdEntry}
 use Rattle.kernel_objects.specs.Slots.{slot, held, picks, next_slot, with_next}
 use Rattle.linux_model.specs.State.{Process}
 use Rattle.linux_model.specs.Processes.{at_pid, process, fds_of, is_live, is_reading_end, is_writing_end}
 use Rattle.linux_model.specs.Effects.{at_fd}
-use Rattle.linux_model.specs.Fits.{LivesAt, ProcsFit}
+use Rattle.linux_model.specs.Fits.{LivesAt}
 use Rattle.linux_model.proofs.fits.Processes.{pids_at, procs_open, procs_grow, process_fits}
 use Rattle.linux_model.proofs.fits.Slots.{next_keeps, next_holds}
 use Rattle.linux_model.proofs.fits.Found.{lives_found}
 use Rattle.proc_table.specs.Entries.{Table}
-use Rattle.manager.specs.Counting.{one_if, slots_with, references, refers, readers, writers, reads_from, writes_to, OneMore, OneFewer}
+use Rattle.manager.specs.Counting.{one_if, references, refers, readers, writers, reads_from, writes_to, OneMore}
 use Rattle.manager.specs.Sound.{Counted, Ended, Sound}
-use Rattle.manager.specs.Tables.{DescTable, PipeTable, PipeThere}
+use Rattle.manager.specs.Tables.{DescTable, PipeTable}
 use Rattle.manager.proofs.Held.{with-next, with_le-held}
-use Rattle.manager.proofs.Open.{Found, found_alive}
+use Rattle.manager.proofs.Open.{found_alive}
 use Rattle.manager.proofs.References.{length_at, references_fd, references_le}
 
 -- a process lives

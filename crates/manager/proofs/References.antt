@@ -1,14 +1,13 @@
 -- How many descriptors refer to a description, as processes change.
-use Rattle.std.proofs.Common.{◌≡◌, ℕ, zero, suc, ◌+◌, ◌*◌, ◌≤◌, ◌<◌, Bool, true, false, cond, eqb, ltb, ◌||◌, ◌==◌, refl, sym, ◌∙◌, ap, List, [], ◌∷◌, ◌++◌, length, filter, slice_set, Option, Some, None, is_some, arith}
+use Rattle.std.proofs.Common.{◌≡◌, ℕ, suc, ◌+◌, ◌*◌, ◌≤◌, ◌<◌, Bool, true, false, cond, eqb, ltb, ◌||◌, refl, ◌∙◌, ap, List, [], ◌∷◌, ◌++◌, length, slice_set, Option, Some, None, arith}
 use Rattle.std.proofs.lemmas.Bool.{lt-ltb, eqb-true, ltb-true, ltb-false, ne_eqb}
 use Rattle.kernel_objects.specs.declared.descriptor.Description.{Description}
 use Rattle.kernel_objects.specs.declared.descriptor.FdEntry.{FdEntry}
 use Rattle.kernel_objects.specs.Slots.{slot, picks, holds_some}
-use Rattle.linux_model.specs.State.{Process, State}
-use Rattle.linux_model.specs.Processes.{at_pid, process, is_referred, is_live}
+use Rattle.linux_model.specs.State.{Process}
+use Rattle.linux_model.specs.Processes.{at_pid, process, is_referred}
 use Rattle.linux_model.specs.Effects.{at_fd}
-use Rattle.linux_model.specs.Fits.{PidsRise, ProcessFits, ProcsFit}
-use Rattle.linux_model.specs.Limits.{DESCRIPTORS}
+use Rattle.linux_model.specs.Fits.{PidsRise, ProcsFit}
 use Rattle.manager.specs.Counting.{one_if, slots_with, references, refers}
 use Rattle.manager.proofs.Held.{with-set, with_some}
 

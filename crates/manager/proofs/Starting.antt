@@ -8,7 +8,7 @@ use Rattle.linux_model.specs.State.{Process}
 use Rattle.linux_model.specs.Processes.{first_process, no_descriptors, process}
 use Rattle.linux_model.specs.Fits.{PidsRise}
 use Rattle.linux_model.proofs.fits.Processes.{pids_more, procs_more}
-use Rattle.proc_table.specs.Entries.{Table, new_process, spawned}
+use Rattle.proc_table.specs.Entries.{Table, spawned}
 use Rattle.manager.specs.Sound.{Sound}
 use Rattle.manager.specs.Tables.{DescTable, PipeTable}
 use Rattle.manager.proofs.References.{references-append}

@@ -1,14 +1,13 @@
 -- Who may have a turn, process by process.
-use Rattle.std.proofs.Common.{◌≡◌, ℕ, zero, suc, ◌+◌, ◌≤◌, ◌<◌, ◌⊎◌, inl, inr, Bool, true, false, not, cond, ◌&&◌, refl, sym, ◌∙◌, ap, subst, List, [], ◌∷◌, ◌++◌, length, drop, map, slice_index, append_assoc, Option, Some, None, is_some, arith}
+use Rattle.std.proofs.Common.{◌≡◌, ℕ, zero, suc, ◌+◌, ◌≤◌, ◌⊎◌, inl, inr, Bool, true, false, not, cond, ◌&&◌, refl, sym, ◌∙◌, ap, List, [], ◌∷◌, ◌++◌, length, drop, map, slice_index, Option, Some, None, is_some, arith}
 use Rattle.std.specs.Prelude.{IfSome, option_map, slice_get}
 use Rattle.lego_base.specs.declared.ids.Pid.{Pid}
 use Rattle.kernel_objects.specs.declared.descriptor.Object.{Object}
 use Rattle.kernel_objects.specs.declared.process.Waiting.{Waiting}
-use Rattle.rv64_step.specs.declared.cpu.Cpu.{Cpu}
 use Rattle.linux_model.specs.State.{Kernel, Process, State, Live, Zombie}
 use Rattle.linux_model.specs.Processes.{is_live}
 use Rattle.linux_model.specs.Descriptors.{Open, arg, opened}
-use Rattle.linux_model.specs.Calls.{Call, Read, Readv, Write, Writev, Wait4, call_of, call_by, call_waits, read_waits, write_waits, wait_waits, is_empty_for, is_full_for, still_waits}
+use Rattle.linux_model.specs.Calls.{Call, call_of, call_by, call_waits, read_waits, write_waits, wait_waits, is_empty_for, is_full_for, still_waits}
 use Rattle.linux_model.specs.Turns.{is_ready, ready_in}
 use Rattle.proc_table.specs.Entries.{proc_of, status_of}
 use Rattle.proc_table.specs.declared.table.Proc.{Proc}

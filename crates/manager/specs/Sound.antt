@@ -1,7 +1,6 @@
 -- What holds of the manager's tables between its calls.
-use Rattle.std.specs.Prelude.{◌≡◌, ℕ, ◌+◌, ◌≤◌, ◌<◌, true, List, length, Option, is_some, slice_index}
+use Rattle.std.specs.Prelude.{◌≡◌, ℕ, ◌+◌, ◌≤◌, ◌<◌, true, List, length, is_some, slice_index}
 use Rattle.lego_base.specs.declared.report.Exit.{Exit}
-use Rattle.kernel_objects.specs.declared.descriptor.Description.{Description}
 use Rattle.kernel_objects.specs.Slots.{slot}
 use Rattle.linux_model.specs.Fits.{PidsRise, ProcsFit}
 use Rattle.linux_model.specs.Limits.{PROCESSES}

@@ -22,7 +22,7 @@ use std::marker::Model;
 pub struct Descs {
     slots: Vec<Option<Description>>, // with room for `NUMBERS`
     refs: Counts,
-    open: u32, // slots that hold one
+    used: u32, // slots that hold one
 }
 
 impl Model for Descs {
@@ -35,7 +35,7 @@ impl Model for Descs {
 
     ghost view = { λ d. record { descs = d.slots.items; refs = d.refs } };
 
-    ghost invariant = { λ d. (length d.slots.items ≤ NUMBERS) × (NUMBERS ≤ vec_capacity d.slots) × (d.open ≡ length (held d.slots.items)) };
+    ghost invariant = { λ d. (length d.slots.items ≤ NUMBERS) × (NUMBERS ≤ vec_capacity d.slots) × (d.used ≡ length (held d.slots.items)) };
 }
 
 impl Descs {
@@ -49,7 +49,7 @@ impl Descs {
         Ok(Descs {
             slots,
             refs,
-            open: 0,
+            used: 0,
         })
     }
 
@@ -57,7 +57,7 @@ impl Descs {
     pub fn room(&self) -> u32
         ensures { result ≡ DESCRIPTIONS - length (held self.now.descs) }
     {
-        NUMBERS as u32 - self.open
+        NUMBERS as u32 - self.used
     }
 
     /// The description in a slot.
@@ -76,7 +76,7 @@ impl Descs {
         ensures refs { OneMore result self.old.refs self.new.refs }
     {
         let desc = put_next(&mut self.slots, description) as u16;
-        self.open += 1;
+        self.used += 1;
         self.refs.add(desc);
         desc
     }
@@ -118,7 +118,7 @@ impl Descs {
         if self.refs.of(desc) > 0 {
             return None;
         }
-        self.open -= 1;
+        self.used -= 1;
         let description = self.slots[desc as usize];
         self.slots[desc as usize] = None;
         description

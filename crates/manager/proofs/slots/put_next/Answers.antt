@@ -1,5 +1,5 @@
-use Rattle.std.proofs.Common.{arith, ◌≡◌, ◌<◌, ◌≤◌, ◌∙◌, sym, ap, rules, length, subst, ℕ, slice_set, Some, length-append}
-use Rattle.kernel_objects.specs.Slots.{held, next_slot}
+use Rattle.std.proofs.Common.{arith, ◌≡◌, ◌∙◌, sym, ap, rules, length, ℕ, slice_set, Some, length-append}
+use Rattle.kernel_objects.specs.Slots.{next_slot}
 use Rattle.manager.proofs.Held.{next_set, next_push, next_all}
 use Rattle.manager.proofs.slots.put_next.Goals as goal
 

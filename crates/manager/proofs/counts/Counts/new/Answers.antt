@@ -1,4 +1,4 @@
-use Rattle.std.proofs.Common.{arith, ◌≡◌, ◌<◌, ◌∙◌, sym, ap, rules, ℕ, slice_index, replicate}
+use Rattle.std.proofs.Common.{◌≡◌, ◌∙◌, ap, rules, slice_index, replicate}
 use Rattle.manager.proofs.Numbers.{all_zero}
 use Rattle.manager.proofs.counts.Counts.new.Goals as goal
 

@@ -1,4 +1,4 @@
-use Rattle.std.proofs.Common.{arith, ◌≡◌, ◌+◌, ◌∙◌, sym, ap, rules, length}
+use Rattle.std.proofs.Common.{arith, ◌≡◌, ◌+◌, ◌∙◌, ap, length}
 use Rattle.kernel_objects.specs.Slots.{held}
 use Rattle.manager.proofs.Held.{held_next}
 use Rattle.manager.proofs.descs.Descs.add.Goals as goal

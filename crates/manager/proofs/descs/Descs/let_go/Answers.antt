@@ -1,4 +1,4 @@
-use Rattle.std.proofs.Common.{arith, ◌≡◌, ◌+◌, ◌==◌, ◌∙◌, sym, ap, rules, true, is_some, length, None, slice_index}
+use Rattle.std.proofs.Common.{arith, ◌≡◌, ◌+◌, ◌==◌, ◌∙◌, ap, rules, true, is_some, length, slice_index}
 use Rattle.kernel_objects.specs.Slots.{held, slot, freed}
 use Rattle.manager.proofs.Held.{held_freed, slot_within, slot_is}
 use Rattle.manager.proofs.descs.Descs.let_go.Goals as goal

@@ -1,6 +1,6 @@
-use Rattle.std.proofs.Common.{arith, ◌≡◌, ◌∙◌, sym, ap, rules, true, is_some, length, Option, Some, None, refl}
+use Rattle.std.proofs.Common.{◌≡◌, ◌∙◌, sym, ap, rules, true, is_some, Option, Some, None, refl}
 use Rattle.kernel_objects.specs.declared.descriptor.Description.{Description}
-use Rattle.kernel_objects.specs.Slots.{held, slot}
+use Rattle.kernel_objects.specs.Slots.{slot}
 use Rattle.linux_model.specs.Effects.{sought}
 use Rattle.manager.proofs.Held.{held_same, slot_within, slot_is}
 use Rattle.manager.proofs.descs.Descs.seek.Goals as goal

@@ -1,4 +1,4 @@
-use Rattle.std.proofs.Common.{◌≡◌, ◌+◌, ◌<◌, ◌∙◌, ap, sym, rules, Some, None, is_some, true, slice_index, length, arith}
+use Rattle.std.proofs.Common.{◌≡◌, ◌<◌, ◌∙◌, ap, rules, Some, None, is_some, slice_index, length, arith}
 use Rattle.kernel_objects.specs.Slots.{slot}
 use Rattle.linux_model.proofs.fits.Found.{entry_fits}
 use Rattle.manager.proofs.Forking.{shared_next, shared_fit}

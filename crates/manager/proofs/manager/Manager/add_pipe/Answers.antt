@@ -1,8 +1,6 @@
-use Rattle.std.proofs.Common.{◌≡◌, ◌-◌, ◌≤◌, ◌<◌, ◌∙◌, sym, ℕ, Result, Ok, rules, length, arith}
-use Rattle.kernel_objects.specs.Slots.{held, slot}
+use Rattle.std.proofs.Common.{◌-◌, length, arith}
+use Rattle.kernel_objects.specs.Slots.{held}
 use Rattle.linux_model.specs.Processes.{fds_of, process}
-use Rattle.manager.specs.Words.{fds_for_two}
-use Rattle.manager.specs.declared.fault.FdFault.{FdFault}
 use Rattle.manager.proofs.Making.{two_are_free, TwoFree}
 use Rattle.manager.proofs.manager.Manager.add_pipe.Goals as goal
 

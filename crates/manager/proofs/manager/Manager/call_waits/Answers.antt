@@ -1,6 +1,6 @@
-use Rattle.std.proofs.Common.{◌≡◌, ◌∙◌, ap, sym, rules}
+use Rattle.std.proofs.Common.{◌≡◌, ◌∙◌}
 use Rattle.std.specs.Prelude.{slice_get}
-use Rattle.linux_model.specs.Calls.{call_by, call_waits, read_waits, wait_waits, write_waits}
+use Rattle.linux_model.specs.Calls.{call_by, call_waits, read_waits, write_waits}
 use Rattle.linux_model.specs.Descriptors.{opened}
 use Rattle.linux_model.specs.Managed.{with_managed}
 use Rattle.linux_model.specs.State.{Kernel}

@@ -1,13 +1,11 @@
-use Rattle.std.proofs.Common.{◌≡◌, ◌<◌, ◌≤◌, ◌+◌, ◌==◌, ◌∙◌, ℕ, ap, subst, sym, rules, true, None, Some, is_some, slice_index, List, [], ◌∷◌, Option, Bool, cond, arith}
+use Rattle.std.proofs.Common.{◌≡◌, ◌==◌, ◌∙◌, ap, subst, sym, rules, None, Some, slice_index, [], ◌∷◌, Option, Bool, cond, arith}
 use Rattle.lego_base.specs.declared.ids.FileNo.{FileNo}
-use Rattle.kernel_objects.specs.declared.descriptor.Description.{Description}
 use Rattle.kernel_objects.specs.Slots.{slot, freed}
 use Rattle.linux_model.specs.Descriptors.{closing}
 use Rattle.linux_model.specs.Effects.{Closes}
 use Rattle.linux_model.specs.Managed.{Managed, managed_after, with_managed}
-use Rattle.linux_model.specs.Processes.{fds_of, is_reading_end, is_writing_end, process}
+use Rattle.linux_model.specs.Processes.{fds_of, process}
 use Rattle.proc_table.specs.Entries.{Table}
-use Rattle.manager.specs.Counting.{one_if, readers, writers}
 use Rattle.manager.specs.Sound.{managed_of}
 use Rattle.manager.specs.Tables.{DescTable}
 use Rattle.manager.specs.Words.{file_left, frees}

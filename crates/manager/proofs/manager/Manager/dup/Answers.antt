@@ -1,4 +1,4 @@
-use Rattle.std.proofs.Common.{◌≡◌, ◌<◌, ◌∙◌, rules, true, None, Some, is_some, slice_index, subst, sym, refl}
+use Rattle.std.proofs.Common.{◌≡◌, rules, true, None, Some, subst, sym}
 use Rattle.kernel_objects.specs.declared.descriptor.FdEntry.{FdEntry}
 use Rattle.kernel_objects.specs.Slots.{picks, slot}
 use Rattle.linux_model.specs.Effects.{at_fd}

@@ -1,7 +1,6 @@
 use Rattle.std.proofs.Common.{◌≡◌, ◌+◌, ◌∙◌, ap, subst, sym, rules, true, false, leb, length, List, Option, Some}
 use Rattle.std.specs.Prelude.{IfSome}
 use Rattle.kernel_objects.specs.declared.descriptor.FdEntry.{FdEntry}
-use Rattle.kernel_objects.specs.declared.process.Brk.{Brk}
 use Rattle.kernel_objects.specs.Slots.{picks}
 use Rattle.linux_model.specs.Effects.{Forks}
 use Rattle.linux_model.specs.Fits.{EntriesFit}

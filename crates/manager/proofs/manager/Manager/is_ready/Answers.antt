@@ -1,4 +1,4 @@
-use Rattle.std.proofs.Common.{◌≡◌, ◌∙◌, ap, sym, rules, not, is_some, false}
+use Rattle.std.proofs.Common.{◌≡◌, rules, not, is_some, false}
 use Rattle.std.specs.Prelude.{slice_get}
 use Rattle.linux_model.specs.Calls.{call_by, call_waits}
 use Rattle.linux_model.specs.Managed.{with_managed}

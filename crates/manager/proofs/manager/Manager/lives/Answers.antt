@@ -1,8 +1,6 @@
 use Rattle.std.proofs.Common.{◌≡◌, ◌∙◌, ap, sym, rules, Some, None, Bool, true, false, not, is_some}
 use Rattle.std.specs.Prelude.{option_map}
-use Rattle.kernel_objects.specs.Slots.{picks}
-use Rattle.linux_model.specs.Managed.{Managed}
-use Rattle.linux_model.specs.Processes.{is_live, process}
+use Rattle.linux_model.specs.Processes.{process}
 use Rattle.proc_table.specs.Entries.{proc_of}
 use Rattle.manager.specs.Words.{is_alive}
 use Rattle.manager.proofs.Open.{known_lives, absent_lives}

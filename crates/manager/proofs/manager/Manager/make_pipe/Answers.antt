@@ -1,4 +1,4 @@
-use Rattle.std.proofs.Common.{◌≡◌, ◌+◌, ◌≤◌, ◌<◌, ◌∙◌, ℕ, ap, subst, sym, refl, rules, true, None, Some, [], is_some, length, arith}
+use Rattle.std.proofs.Common.{◌≡◌, ◌+◌, ◌∙◌, ap, subst, sym, refl, rules, true, None, Some, [], is_some, length, arith}
 use Rattle.std.proofs.lemmas.Bool.{eq-eqb}
 use Rattle.kernel_objects.specs.declared.descriptor.Description.{Description}
 use Rattle.kernel_objects.specs.declared.descriptor.FdEntry.{FdEntry}

@@ -1,4 +1,4 @@
-use Rattle.std.proofs.Common.{◌≡◌, ◌≤◌, ◌∙◌, ap, subst, sym, rules, Some, List, Option, ℕ, arith}
+use Rattle.std.proofs.Common.{◌≡◌, subst, rules, Some, ℕ, arith}
 use Rattle.kernel_objects.specs.Slots.{slot}
 use Rattle.manager.specs.Tables.{PipeThere}
 use Rattle.linux_model.specs.Managed.{Managed}

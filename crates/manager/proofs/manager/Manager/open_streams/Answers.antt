@@ -1,4 +1,4 @@
-use Rattle.std.proofs.Common.{◌≡◌, ◌+◌, ◌≤◌, ◌∙◌, ap, sym, rules, true, false, None, Some, List, Option, length, arith}
+use Rattle.std.proofs.Common.{◌≡◌, ◌∙◌, ap, false, None, Some, List, Option, length, arith}
 use Rattle.kernel_objects.specs.declared.descriptor.Description.{Description}
 use Rattle.kernel_objects.specs.declared.descriptor.FdEntry.{FdEntry}
 use Rattle.kernel_objects.specs.declared.descriptor.Object.TheVariants.{Input, Output}

@@ -1,4 +1,4 @@
-use Rattle.std.proofs.Common.{◌≤◌, ℕ, subst, arith, ◌≡◌, ◌∙◌, ap, sym, rules, true, is_some, Some, None}
+use Rattle.std.proofs.Common.{ℕ, subst, arith, ◌≡◌, ap, rules, true, is_some, Some, None}
 use Rattle.kernel_objects.specs.Slots.{slot}
 use Rattle.linux_model.specs.Processes.{fds_of, process}
 use Rattle.linux_model.specs.Managed.{Managed}

@@ -1,7 +1,6 @@
-use Rattle.std.proofs.Common.{◌≡◌, ◌∙◌, ap, ltb, rules, ℕ}
-use Rattle.manager.specs.Counting.{readers, writers, reads_from, writes_to}
+use Rattle.std.proofs.Common.{◌∙◌, ap, ltb}
+use Rattle.manager.specs.Counting.{reads_from, writes_to}
 use Rattle.manager.specs.declared.pipes.PipeState.{PipeState}
-use Rattle.manager.specs.Tables.{DescTable}
 use Rattle.linux_model.specs.Processes.{has_reader, has_writer}
 use Rattle.linux_model.specs.Managed.{Managed}
 use Rattle.manager.proofs.Held.{with_some}

@@ -1,9 +1,9 @@
-use Rattle.std.proofs.Common.{◌≡◌, ◌∙◌, ap, sym, rules, Option, Some, None, false}
+use Rattle.std.proofs.Common.{◌≡◌, ◌∙◌, sym, false}
 use Rattle.std.specs.Prelude.{option_map, slice_get}
 use Rattle.linux_model.specs.Calls.{read_waits}
 use Rattle.linux_model.specs.Descriptors.{opened}
 use Rattle.linux_model.specs.Managed.{with_managed}
-use Rattle.linux_model.specs.State.{Kernel, Process}
+use Rattle.linux_model.specs.State.{Kernel}
 use Rattle.manager.proofs.Waiting.{if_map, reads_object, reads_none}
 use Rattle.manager.proofs.manager.Manager.read_waits.Goals as goal
 

@@ -1,10 +1,10 @@
-use Rattle.std.proofs.Common.{◌≡◌, ◌+◌, ◌++◌, ◌∷◌, Vec, Global, ◌∙◌, ap, sym, subst, drop, map, List, [], Some, None, Option, ℕ, length, arith, ◌≤◌}
+use Rattle.std.proofs.Common.{◌≡◌, ◌+◌, ◌++◌, ◌∷◌, Vec, Global, ◌∙◌, ap, sym, drop, map, List, [], ℕ, length, arith}
 use Rattle.std.specs.Prelude.{option_map, slice_get}
 use Rattle.std.proofs.lemmas.List.{append-nil}
 use Rattle.lego_base.specs.declared.ids.Pid.{Pid}
 use Rattle.linux_model.specs.Managed.{Managed, with_managed}
 use Rattle.linux_model.specs.State.{Kernel, Process}
-use Rattle.linux_model.specs.Turns.{ready, ready_in}
+use Rattle.linux_model.specs.Turns.{ready_in}
 use Rattle.proc_table.specs.Entries.{proc_of}
 use Rattle.proc_table.specs.declared.table.Proc.{Proc}
 use Rattle.manager.proofs.Waiting.{drop_past, ready_here, waits_here, none_here}

@@ -1,5 +1,4 @@
-use Rattle.std.proofs.Common.{◌≡◌, ◌∙◌, ap, subst, sym, rules, List, None}
-use Rattle.linux_model.specs.State.{Process}
+use Rattle.std.proofs.Common.{◌≡◌, ◌∙◌, ap, subst, sym, rules, None}
 use Rattle.linux_model.specs.Processes.{at_pid}
 use Rattle.proc_table.specs.Entries.{Table}
 use Rattle.manager.specs.Sound.{Sound}

@@ -1,4 +1,4 @@
-use Rattle.std.proofs.Common.{subst, sym, rules, ◌≡◌, ◌∙◌, slice_set}
+use Rattle.std.proofs.Common.{subst, sym, ◌≡◌, slice_set}
 use Rattle.kernel_objects.specs.Slots.{slot}
 use Rattle.linux_model.specs.Effects.{sought}
 use Rattle.manager.specs.Sound.{Sound}
