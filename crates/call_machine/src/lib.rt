@@ -8,8 +8,8 @@
 
 ghost use Rattle.call_machine.specs.Laws.{StopsFollow};
 
-pub mod errno;
 mod end;
+pub mod errno;
 mod machine;
 
 pub use end::CallEnd;
