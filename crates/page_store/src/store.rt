@@ -231,8 +231,10 @@ fn bytes_of<'a>(spots: &[Spot], frames: &'a PageFrames, pid: Pid, vpn: Vpn) -> O
         MatchOption result (held ≡ None) (λ bytes. held ≡ Some bytes.now) }
     ensures length { IfSome result (λ bytes. length bytes.now ≡ 4096) }
 {
-    let frame = frame_of(spots, frames, pid, vpn)?;
-    Some(frames::bytes(frames, frame))
+    match frame_of(spots, frames, pid, vpn) {
+        Some(frame) => Some(frames::bytes(frames, frame)),
+        None => None,
+    }
 }
 
 // The frame of a page: the one that a hint names, else by a search.
@@ -252,8 +254,10 @@ fn searched(spots: &[Spot], pid: Pid, vpn: Vpn) -> Option<usize>
     requires { Rises spot_key spots.now }
     ensures { result ≡ frame_in (find spot_key (key_at pid.0 vpn.0) spots.now) }
 {
-    let spot = get(spots, pid, vpn.0)?;
-    Some(spot.frame)
+    match get(spots, pid, vpn.0) {
+        Some(spot) => Some(spot.frame),
+        None => None,
+    }
 }
 
 // Lays bytes over those of a page.

@@ -6,19 +6,12 @@ use crate::Store;
 use lego_base::{Bytes, FileNo, MemId, OpNo, Patch, Pid, RegionNo, Seq, Vpn};
 use lego_msg::{Body, Message, Outbox, Place};
 use std::alloc::Global;
-use std::process::Abort;
 use std::test::Fail;
 
 const MEMORY: Place = Place::Memory(MemId(1));
 
-// Compares the answer of storage to a message of a memory: to whom it goes, and how its text begins.
-fn expect(
-    rt: &impl Abort,
-    store: &mut Store,
-    alloc: Global,
-    body: Body,
-    words: &str,
-) -> Result<(), Fail>
+// To whom storage answers a message of a memory, and what.
+fn answer(store: &mut Store, alloc: Global, body: Body) -> Result<String, Fail>
     requires form { InForm body }
     requires there { HasFile store.old body }
 {
@@ -35,8 +28,12 @@ fn expect(
         let to = if answer.to == MEMORY { "M1" } else { "G" };
         text.push_str(format!(in alloc; "{to} {:?}", answer.body)?.as_str())?;
     }
-    assert!(rt; text.as_str().starts_with(words) && text.as_str().is_empty() == words.is_empty());
-    Ok(())
+    Ok(text)
+}
+
+// Whether an answer begins with these words.
+fn begins(text: &String, words: &str) -> bool {
+    text.as_str().starts_with(words)
 }
 
 #[test]
@@ -44,148 +41,122 @@ fn names_are_made_found_and_removed(rt: HostRuntime) -> Result<(), Fail> {
     let alloc = rt.alloc();
     let mut store = Store::new(alloc, 1)?;
     let name = Bytes::from_slice(alloc, b"b")?;
-    expect(
-        &rt,
-        &mut store,
-        alloc,
-        Body::NameMake { name },
-        "M1 NameIs { file: Some(FileNo(0)) }",
-    )?;
+    let made = answer(&mut store, alloc, Body::NameMake { name })?;
+    assert_eq!(rt; made.as_str(), "M1 NameIs { file: Some(FileNo(0)) }");
     let name = Bytes::from_slice(alloc, b"a")?;
-    expect(
-        &rt,
-        &mut store,
-        alloc,
-        Body::NameMake { name },
-        "M1 NameIs { file: Some(FileNo(1)) }",
-    )?;
+    let made = answer(&mut store, alloc, Body::NameMake { name })?;
+    assert_eq!(rt; made.as_str(), "M1 NameIs { file: Some(FileNo(1)) }");
     let name = Bytes::from_slice(alloc, b"b")?;
-    expect(
-        &rt,
-        &mut store,
-        alloc,
-        Body::NameGet { name },
-        "M1 NameIs { file: Some(FileNo(0)) }",
-    )?;
+    let found = answer(&mut store, alloc, Body::NameGet { name })?;
+    assert_eq!(rt; found.as_str(), "M1 NameIs { file: Some(FileNo(0)) }");
     let name = Bytes::from_slice(alloc, b"b")?;
-    expect(&rt, &mut store, alloc, Body::NameCut { name }, "M1 Done")?;
-    expect(
-        &rt,
-        &mut store,
-        alloc,
-        Body::FileFree { file: FileNo(0) },
-        "M1 Done",
-    )?;
+    let removed = answer(&mut store, alloc, Body::NameCut { name })?;
+    assert_eq!(rt; removed.as_str(), "M1 Done");
+    let freed = answer(&mut store, alloc, Body::FileFree { file: FileNo(0) })?;
+    assert_eq!(rt; freed.as_str(), "M1 Done");
+    let all = answer(&mut store, alloc, Body::NameAll)?;
     let a =
         "M1 Names { list: Seq { items: [NameEntry { name: Bytes { items: [97] }, file: FileNo(1) }] } }";
-    expect(&rt, &mut store, alloc, Body::NameAll, a)
+    assert_eq!(rt; all.as_str(), a);
+    Ok(())
 }
 
 #[test]
 fn bytes_are_put_cut_and_given(rt: HostRuntime) -> Result<(), Fail> {
     let alloc = rt.alloc();
-    let (file, block, off, asker) = (FileNo(0), 0, 3, Place::Manager);
+    let file = FileNo(0);
     let mut store = Store::new(alloc, 1)?;
     let name = Bytes::from_slice(alloc, b"name")?;
-    expect(
-        &rt,
-        &mut store,
-        alloc,
-        Body::NameMake { name },
-        "M1 NameIs { file: Some(FileNo(0)) }",
-    )?;
+    answer(&mut store, alloc, Body::NameMake { name })?;
+    let asker = Place::Manager;
     let bytes = Bytes::from_slice(alloc, b"hi")?;
     assert!(rt; store.has_file(file));
-    let put = Body::BlockPut {
-        file,
-        block,
-        off,
-        bytes,
-        asker,
-    };
-    expect(&rt, &mut store, alloc, put, "G Wrote")?;
-    assert!(rt; store.has_file(file));
-    let cut = Body::BlockCut {
-        file,
-        size: 4097,
-        asker,
-    };
-    expect(&rt, &mut store, alloc, cut, "G Refused(StoreFull)")?;
-    assert!(rt; store.has_file(file));
-    expect(
-        &rt,
+    let put = answer(
         &mut store,
         alloc,
-        Body::FileSize { file },
-        "M1 SizeIs { size: 5 }",
+        Body::BlockPut {
+            file,
+            block: 0,
+            off: 3,
+            bytes,
+            asker,
+        },
     )?;
+    assert_eq!(rt; put.as_str(), "G Wrote");
     assert!(rt; store.has_file(file));
-    let get = Body::BlockGet {
-        file,
-        block,
-        off,
-        len: 2,
-        asker,
-    };
-    let got =
+    let cut = answer(
+        &mut store,
+        alloc,
+        Body::BlockCut {
+            file,
+            size: 4097,
+            asker,
+        },
+    )?;
+    assert_eq!(rt; cut.as_str(), "G Refused(StoreFull)");
+    assert!(rt; store.has_file(file));
+    let size = answer(&mut store, alloc, Body::FileSize { file })?;
+    assert_eq!(rt; size.as_str(), "M1 SizeIs { size: 5 }");
+    assert!(rt; store.has_file(file));
+    let got = answer(
+        &mut store,
+        alloc,
+        Body::BlockGet {
+            file,
+            block: 0,
+            off: 3,
+            len: 2,
+            asker,
+        },
+    )?;
+    let block =
         "M1 BlockIs { file: FileNo(0), block: 0, off: 3, len: 2, asker: Manager, bytes: Bytes { items: [0, 0, 0, 104, 105, 0, 0";
-    expect(&rt, &mut store, alloc, get, got)
+    assert!(rt; begins(&got, block));
+    Ok(())
 }
 
 #[test]
 fn images_follow_their_messages(rt: HostRuntime) -> Result<(), Fail> {
     let alloc = rt.alloc();
-    let (parent, child, region) = (Pid(1), Pid(2), RegionNo(1));
     let mut store = Store::new(alloc, 0)?;
     let mut patches = Seq::new(alloc);
     patches.push(Patch {
-        pid: parent,
+        pid: Pid(1),
         vpn: Vpn(513),
         off: 1,
         bytes: Bytes::from_slice(alloc, b"x")?,
     })?;
-    expect(
-        &rt,
-        &mut store,
-        alloc,
-        Body::Backup { patches },
-        "M1 BackedUp",
-    )?;
+    let backup = answer(&mut store, alloc, Body::Backup { patches })?;
+    assert_eq!(rt; backup.as_str(), "M1 BackedUp");
     let mut regions = Seq::new(alloc);
-    regions.push(region)?;
-    let copy = Body::ImageCopy {
-        parent,
-        child,
-        regions,
-    };
-    expect(&rt, &mut store, alloc, copy, "M1 Done")?;
-    expect(
-        &rt,
+    regions.push(RegionNo(1))?;
+    let (parent, child, region) = (Pid(1), Pid(2), RegionNo(1));
+    let copied = answer(
         &mut store,
         alloc,
-        Body::ImageFree { pid: parent },
-        "M1 Done",
+        Body::ImageCopy {
+            parent,
+            child,
+            regions,
+        },
     )?;
-    let none = Body::PullImages {
-        pid: parent,
-        region,
-    };
-    expect(
-        &rt,
+    assert_eq!(rt; copied.as_str(), "M1 Done");
+    let freed = answer(&mut store, alloc, Body::ImageFree { pid: parent })?;
+    assert_eq!(rt; freed.as_str(), "M1 Done");
+    let none = answer(
         &mut store,
         alloc,
-        none,
-        "M1 Images { pages: Seq { items: [] } }",
+        Body::PullImages {
+            pid: parent,
+            region,
+        },
     )?;
+    assert_eq!(rt; none.as_str(), "M1 Images { pages: Seq { items: [] } }");
+    let pulled = answer(&mut store, alloc, Body::PullImages { pid: child, region })?;
     let image =
         "M1 Images { pages: Seq { items: [PageImage { pid: Pid(2), vpn: Vpn(513), bytes: Bytes { items: [0, 120, 0";
-    expect(
-        &rt,
-        &mut store,
-        alloc,
-        Body::PullImages { pid: child, region },
-        image,
-    )
+    assert!(rt; begins(&pulled, image));
+    Ok(())
 }
 
 #[test]
@@ -193,18 +164,20 @@ fn images_are_dropped_and_set(rt: HostRuntime) -> Result<(), Fail> {
     let alloc = rt.alloc();
     let mut store = Store::new(alloc, 0)?;
     let (pid, region, pages) = (Pid(1), RegionNo(0), Seq::new(alloc));
-    expect(
-        &rt,
+    let set = answer(&mut store, alloc, Body::ResetImages { pid, region, pages })?;
+    assert_eq!(rt; set.as_str(), "M1 Done");
+    let first = Vpn(0);
+    let dropped = answer(
         &mut store,
         alloc,
-        Body::ResetImages { pid, region, pages },
-        "M1 Done",
+        Body::ImageDrop {
+            pid,
+            first,
+            pages: 512,
+        },
     )?;
-    let drop = Body::ImageDrop {
-        pid,
-        first: Vpn(0),
-        pages: 512,
-    };
-    expect(&rt, &mut store, alloc, drop, "M1 Done")?;
-    expect(&rt, &mut store, alloc, Body::Drain, "")
+    assert_eq!(rt; dropped.as_str(), "M1 Done");
+    let nothing = answer(&mut store, alloc, Body::Drain)?;
+    assert_eq!(rt; nothing.as_str(), "");
+    Ok(())
 }

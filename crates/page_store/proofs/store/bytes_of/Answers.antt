@@ -7,24 +7,23 @@ use Rattle.page_store.proofs.store.bytes_of.Goals as goal
 
 pub bytes-requires : goal.bytes-requires
 bytes-requires c =
-    let there = from_frame (find spot_key (key_at c.args.pid.0 c.args.vpn.0) c.args.spots.now) c.in_ok-frame.frame (sym c.in_ok-frame.ensures) in
+    let there = from_frame (find spot_key (key_at c.args.pid.0 c.args.vpn.0) c.args.spots.now) c.in-Some.frame (sym c.in-Some.ensures) in
     let held = found_held c.args.frames.now.slots c.args.spots.now (key_at c.args.pid.0 c.args.vpn.0) there.0 c.requires.held there.1 in
     let slot = slot_of c.args.frames.now.slots there.0 held.0 in
     rw (sym there.2, slot.1) refl
 
-pub returns-clause-bytes : goal.returns-clause-bytes
-returns-clause-bytes c =
-    let there = from_frame (find spot_key (key_at c.args.pid.0 c.args.vpn.0) c.args.spots.now) c.in_ok-frame.frame (sym c.in_ok-frame.ensures) in
+pub returns-in-Some-clause-bytes : goal.returns-in-Some-clause-bytes
+returns-in-Some-clause-bytes c =
+    let there = from_frame (find spot_key (key_at c.args.pid.0 c.args.vpn.0) c.args.spots.now) c.in-Some.frame (sym c.in-Some.ensures) in
     page_in_frame c.args.frames.now.slots c.args.spots.now c.args.pid.0 c.args.vpn.0 there.0 there.1
     ∙ ap (λ (b : List ℕ). Some b) (ap (λ (n : ℕ). bytes_in (get_or c.args.frames.now.slots n None)) there.2 ∙ sym c.bytes.ensures)
 
-pub returns-clause-length : goal.returns-clause-length
-returns-clause-length c =
-    let there = from_frame (find spot_key (key_at c.args.pid.0 c.args.vpn.0) c.args.spots.now) c.in_ok-frame.frame (sym c.in_ok-frame.ensures) in
+pub returns-in-Some-clause-length : goal.returns-in-Some-clause-length
+returns-in-Some-clause-length c =
+    let there = from_frame (find spot_key (key_at c.args.pid.0 c.args.vpn.0) c.args.spots.now) c.in-Some.frame (sym c.in-Some.ensures) in
     let held = found_held c.args.frames.now.slots c.args.spots.now (key_at c.args.pid.0 c.args.vpn.0) there.0 c.requires.held there.1 in
     ap length (c.bytes.ensures ∙ ap (λ (n : ℕ). bytes_in (get_or c.args.frames.now.slots n None)) (sym there.2)) ∙ held_whole there.0 (get_or c.args.frames.now.slots there.0.frame None) held.0
 
-pub returns-in_err-frame-clause-bytes : goal.returns-in_err-frame-clause-bytes
-returns-in_err-frame-clause-bytes c =
-    rw (c.from_residual.ensures)
-    (page_in_none c.args.frames.now.slots c.args.spots.now c.args.pid.0 c.args.vpn.0 (from_none (find spot_key (key_at c.args.pid.0 c.args.vpn.0) c.args.spots.now) (sym c.in_err-frame.ensures)))
+pub returns-in-None-clause-bytes : goal.returns-in-None-clause-bytes
+returns-in-None-clause-bytes c =
+    page_in_none c.args.frames.now.slots c.args.spots.now c.args.pid.0 c.args.vpn.0 (from_none (find spot_key (key_at c.args.pid.0 c.args.vpn.0) c.args.spots.now) (sym c.in-None.ensures))
