@@ -1,7 +1,7 @@
--- What a machine with spaces alone holds.
-use Rattle.std.specs.Prelude.{ℕ, []}
+-- What a small machine holds: spaces, and an empty file without a name.
+use Rattle.std.specs.Prelude.{ℕ, [], ◌∷◌}
 use Rattle.lego_base.specs.Space.{Space}
 use Rattle.linux_model.specs.Held.{Held}
 
-abbrev pub spaces_alone : (ℕ → Space) → Held
-spaces_alone spaces = record { space = spaces; files = []; names = []; next = 0 }
+abbrev pub with_one_file : (ℕ → Space) → Held
+with_one_file spaces = record { space = spaces; files = record { file = 0; bytes = [] } ∷ []; names = []; next = 1 }

@@ -3,7 +3,7 @@ ghost use Rattle.std.specs.Prelude.{◌≡◌, false};
 ghost use Rattle.lego_base.specs.Space.{no_space};
 ghost use Rattle.flat_memory.specs.Spaces.{spaces_of};
 ghost use Rattle.call_machine.specs.Lawful.{Led, holding};
-ghost use Rattle.space_loading.specs.Tried.{spaces_alone};
+ghost use Rattle.space_loading.specs.Tried.{with_one_file};
 
 use crate::load::load_program;
 use area_list::Areas;
@@ -28,11 +28,11 @@ impl Machine for Fresh {
     ghost use Rattle.linux_model.specs.Held.{Held};
     ghost use Rattle.flat_memory.specs.Spaces.{spaces_of};
     ghost use Rattle.call_machine.specs.Lawful.{Lawful, Led, holding};
-    ghost use Rattle.space_loading.specs.Tried.{spaces_alone};
+    ghost use Rattle.space_loading.specs.Tried.{with_one_file};
 
-    ghost held = { λ m. spaces_alone (spaces_of m.memory) };
+    ghost held = { λ m. with_one_file (spaces_of m.memory) };
 
-    ghost does = { λ a b es. Led (spaces_alone (spaces_of a.memory)) (spaces_alone (spaces_of b.memory)) es };
+    ghost does = { λ a b es. Led (with_one_file (spaces_of a.memory)) (with_one_file (spaces_of b.memory)) es };
 
     ghost stops = { λ a b es. Unit {0} };
 
@@ -129,7 +129,7 @@ impl Machine for Fresh {
 
     fn put_out(&mut self, _stream: Stream, _bytes: &[u8]) {}
 
-    ghost lawful = { holding (λ m. spaces_alone (spaces_of m.memory)) };
+    ghost lawful = { holding (λ m. with_one_file (spaces_of m.memory)) };
 }
 
 // The header of an ELF64 file for RISC-V with the entry 0x100b0 and two program headers of 56 bytes.

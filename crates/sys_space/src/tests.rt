@@ -18,7 +18,7 @@ use std::test::Fail;
 /// The process that has a space.
 const FIRST: Pid = Pid(1);
 
-// The space of process 1, in which no byte was written. There is no other space, no file and no room for one.
+// The space of process 1, in which no byte was written, and an empty file without a name. There is no other space.
 #[derive(Drop)]
 struct Blank {
     areas: Areas,
