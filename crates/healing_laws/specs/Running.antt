@@ -54,7 +54,7 @@ abbrev pub EveryListEndsAtRest : Type 0
 EveryListEndsAtRest = (t : Track) (events : List Event) → AtRest t → Legal t events → GrantedAll t events → IsOver (run t events) → AtRest (run t events)
 
 -- AN OPERATION that is due at rest, and granted, leads back to rest through every legal list of events, crashes and healing
--- among them, after which the marks behind it are still due; its effect on the plain map is all that is new.
+-- among them, after which the marks that follow it are still due; its effect on the plain map is all that is new.
 abbrev pub LeadsBackThroughCrashes : Type 0
 LeadsBackThroughCrashes = (t : Track) (o : Order) (rest : List Mark) (m : Message) (events : List Event) →
     IsDue t o rest → Legal t (Send m ∷ events) → (run t (Send m ∷ events)).due ≡ rest → IsOver (run t (Send m ∷ events)) → LedBack t o rest (run t (Send m ∷ events))
