@@ -233,6 +233,7 @@ module _ (lost : Option ℕ) (t : Track) (m : Message) (may : MayDeliver t m) (m
           id = was.id;
           log_room = was.log_room;
           cache_room = was.cache_room;
+          machine = was.machine;
           main = was.main;
           spare = was.spare;
           pages = was.pages;

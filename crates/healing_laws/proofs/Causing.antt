@@ -28,11 +28,11 @@ use Rattle.rest_laws.proofs.Opened.{every}
 use Rattle.rest_laws.specs.Causes.{IsTooMuch}
 use Rattle.rest_laws.specs.GoingOn.{BeginsGranted, owners_with}
 use Rattle.healing_laws.proofs.EndsBeside.{same_lost, same_owners}
-use Rattle.healing_laws.proofs.Events.{every-event-keeps, in_relation}
+use Rattle.healing_laws.proofs.Events.{every-event-keeps, every-list-keeps, in_relation}
 use Rattle.healing_laws.proofs.Frames.{was_there}
 use Rattle.healing_laws.proofs.LeadsBack.{Ends, Same, Shrinks, Stays, Steps, comes_same, completed_due, completed_steps, crashed_same}
 use Rattle.healing_laws.proofs.TooMuch.{share_fits}
-use Rattle.healing_laws.specs.Refusals.{PlainMapsFit}
+use Rattle.healing_laws.specs.Refusals.{FramesAreTheMachines, PlainMapsFit}
 use Rattle.healing_laws.specs.Running.{GrantedAll, GrantedBeside, InRelation, IsGrantedThere, lost_in}
 
 -- THE PLAIN MAP FITS: no memory has fewer frames than pages of it
@@ -141,6 +141,9 @@ roomy_after t (Complete op) may granted middle roomy = by (completed_steps t op 
 pub roomy_list : (t : Track) (events : List Event) → InRelation t → Roomy t → Legal t events → GrantedAll t events → Roomy (run t events)
 roomy_list t [] middle roomy legal granted = roomy
 roomy_list t (e ∷ events) middle roomy legal granted = roomy_list (after t e) events (every-event-keeps t e legal.0 granted.0 middle) (roomy_after t e legal.0 granted.0 middle roomy) legal.1 granted.1
+
+pub frames-are-the-machines : FramesAreTheMachines
+frames-are-the-machines t events rest legal granted k s at = ((every-list-keeps t events rest legal granted).forms k s at).machine
 
 pub plain-maps-fit : PlainMapsFit
 plain-maps-fit t events rest legal granted = roomy_list t events (in_relation None t (rest-is-middle t rest)) (rest_roomy t rest) legal granted

@@ -260,7 +260,7 @@ module _ (t : Track) (o : Order) (rest : List Mark) where
       by owed None c may = beside owed c now.due may refl
 
   -- each step goes on, or a mark comes
-  step : (now : Track) (e : Event) → May now e → Way now → Way (after now e) ⊎ (length (after now e).due < length now.due)
+  pub step : (now : Track) (e : Event) → May now e → Way now → Way (after now e) ⊎ (length (after now e).due < length now.due)
   step now e may way = elim (granted_or now e may) [
     | inr less ↦ inr less
     | inl granted ↦ by (every-event-keeps now e may granted way.middle) (event_steps now e may)
@@ -287,7 +287,7 @@ module _ (t : Track) (o : Order) (rest : List Mark) where
       by middle (Ends p is complete ended) = inl (record { middle = middle; due = ap (λ (u : Track). u.due) ended ∙ way.due; stands = ends_stands p is ended way.stands })
       by middle (Shrinks less) = inr less
 
-  goes_on : (now : Track) (events : List Event) → Legal now events → (run now events).due ≡ rest → Way now → Way (run now events)
+  pub goes_on : (now : Track) (events : List Event) → Legal now events → (run now events).due ≡ rest → Way now → Way (run now events)
   goes_on now [] legal last way = way
   goes_on now (e ∷ events) legal last way = by (step now e legal.0 way) (λ next. goes_on (after now e) events legal.1 last next)
     where
@@ -301,7 +301,7 @@ module _ (t : Track) (o : Order) (rest : List Mark) where
 
   module _ (is_due : IsDue t o rest) where
     -- the first message
-    sets_out : (m : Message) → May t (Send m) → Way (after t (Send m))
+    pub sets_out : (m : Message) → May t (Send m) → Way (after t (Send m))
     sets_out m may = record { middle = every-event-keeps t (Send m) may granted (in_relation None t (rest-is-middle t is_due.rests)); due = stands.1; stands = stands.0 }
       where
         granted : GrantedBeside t t.healing

@@ -28,6 +28,17 @@ pub mod Frames
 pub mod LeadsBack
 pub mod TooMuch
 pub mod Causing
+pub mod Growing
 pub mod Refuses
+pub mod Refusers
+pub mod Lasting
 pub mod Forms
 pub mod Answering
+pub mod Awaiting
+pub mod Fitting
+pub mod Playing
+pub mod Unwritten
+pub mod Emptying
+pub mod Origins
+pub mod Dry
+pub mod Calling

@@ -149,6 +149,7 @@ module _ (lost : Option ℕ) (t : Track) (m : Message) (may : MayDeliver t m) (m
       id = was.id;
       log_room = was.log_room;
       cache_room = was.cache_room;
+      machine = was.machine;
       main = new_fits.form;
       spare = was.spare;
       pages = was.pages;
@@ -173,6 +174,7 @@ module _ (lost : Option ℕ) (t : Track) (m : Message) (may : MayDeliver t m) (m
       id = was.id;
       log_room = was.log_room;
       cache_room = was.cache_room;
+      machine = was.machine;
       main = was.main;
       spare = new_fits.form;
       pages = was.pages;
@@ -245,6 +247,7 @@ module _ (lost : Option ℕ) (t : Track) (m : Message) (may : MayDeliver t m) (m
           id = was.id;
           log_room = was.log_room;
           cache_room = was.cache_room;
+          machine = was.machine;
           main = was.main;
           spare = was.spare;
           pages = fit_with (sides_of t) h.memory.0 pid region pages x.pages handed was.pages;

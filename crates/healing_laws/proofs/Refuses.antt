@@ -33,15 +33,17 @@ use Rattle.rest_laws.proofs.Goes.{called_of}
 use Rattle.rest_laws.proofs.Meeting.{memory_same}
 use Rattle.rest_laws.proofs.Opened.{all_among}
 use Rattle.rest_laws.proofs.Taken.{all_taken, whole}
+use Rattle.rest_laws.specs.Causes.{IsTooMuch}
 use Rattle.rest_laws.proofs.Refusing.{Exceeds, Overflows, any_stops, file_refuses, row_refuses}
-use Rattle.healing_laws.proofs.Causing.{rest_roomy, roomy_list}
+use Rattle.healing_laws.proofs.Causing.{Roomy, rest_roomy, roomy_list}
 use Rattle.healing_laws.proofs.Events.{every-list-keeps, in_relation}
+use Rattle.healing_laws.proofs.Growing.{new_too_much}
 use Rattle.healing_laws.proofs.Handed.{fit_with}
 use Rattle.healing_laws.proofs.LostRows.{new_pages}
 use Rattle.healing_laws.proofs.MovesAre.{AskIs, MoveIs, OfImages, OfLog, OfMain, OfPages, OfSpare}
 use Rattle.healing_laws.proofs.MoveSteps.{its_message, the_way}
-use Rattle.healing_laws.proofs.TooMuch.{after_too_much, same_too_much, too_much_of}
-use Rattle.healing_laws.specs.Refusals.{CrashesAloneRefuseNothing, GoesOn, IsTooMuchOf, MemoryCauses, RefusalsHaveCausesThere, StorageCauses}
+use Rattle.healing_laws.proofs.TooMuch.{IsTooMuchOf, after_too_much, too_much_of}
+use Rattle.healing_laws.specs.Refusals.{CrashesAloneRefuseNothing, GoesOn, MemoryCauses, RefusalsHaveCausesThere, StorageCauses}
 use Rattle.healing_laws.specs.Running.{lost_in}
 use Rattle.lego_msg.specs.declared.place.Place.TheVariants as place
 
@@ -159,10 +161,10 @@ module _ (lost : Option ℕ) (t : Track) (m : Message) (may : MayDeliver t m) (m
         by (OfBackground of) = absurd (batch of.of of.batch)
         by (Left old) = absurd (subst (Exceeds s) old.drained more)
 
-    pub memory_causes : MemoryCauses t k s (handled s m).1
-    memory_causes = elim (row_refuses s m m.body) [
-      | inl none ↦ all_goes Full (handled s m).1 none
-      | inr more ↦ all_caused Full (handled s m).1 (full more)
+    pub memory_causes : Roomy t → MemoryCauses t k s (handled s m).1
+    memory_causes roomy = elim (row_refuses s m m.body) [
+      | inl none ↦ all_goes (IsTooMuch t.owners (plain_with t.current t.plain) k s.frames) (handled s m).1 none
+      | inr more ↦ all_caused (IsTooMuch t.owners (plain_with t.current t.plain) k s.frames) (handled s m).1 (new_too_much lost t middle roomy k s at (full more))
     ]
 
   -- STORAGE, which refuses only while an operation is open
@@ -231,8 +233,10 @@ module _ (lost : Option ℕ) (t : Track) (m : Message) (may : MayDeliver t m) (m
 
 pub refusals-have-causes-there : RefusalsHaveCausesThere
 refusals-have-causes-there t events m rest legal granted may =
-    let middle = every-list-keeps t events rest legal granted in
-    (memory_causes (lost_in (run t events).healing) (run t events) m may middle, storage_causes (lost_in (run t events).healing) (run t events) m may middle)
+    let middle = every-list-keeps t events rest legal granted in (
+      λ k s to at. memory_causes (lost_in (run t events).healing) (run t events) m may middle k s to at (roomy_list t events (in_relation None t (rest-is-middle t rest)) (rest_roomy t rest) legal granted),
+      storage_causes (lost_in (run t events).healing) (run t events) m may middle,
+    )
 
 pub crashes-alone-refuse-nothing : CrashesAloneRefuseNothing
 crashes-alone-refuse-nothing t events m rest legal granted may closed = (in_memory, in_storage)
@@ -241,10 +245,13 @@ crashes-alone-refuse-nothing t events m rest legal granted may closed = (in_memo
     middle = every-list-keeps t events rest legal granted
 
     in_memory : (k : ℕ) (s : Mem) → m.to ≡ memory k → slice_get (run t events).mems k ≡ Some s → GoesOn (handled s m).1
-    in_memory k s to at = without_cause (IsTooMuchOf (run t events).owners (run t events).plain (plain_with (run t events).current (run t events).plain) k s.frames) (handled s m).1 none (memory_causes (lost_in (run t events).healing) (run t events) m may middle k s to at)
+    in_memory k s to at = without_cause (IsTooMuch (run t events).owners (plain_with (run t events).current (run t events).plain) k s.frames) (handled s m).1 none (memory_causes (lost_in (run t events).healing) (run t events) m may middle k s to at roomy)
       where
-        none : IsTooMuchOf (run t events).owners (run t events).plain (plain_with (run t events).current (run t events).plain) k s.frames → ⊥
-        none too = roomy_list t events (in_relation None t (rest-is-middle t rest)) (rest_roomy t rest) legal granted k s at (same_too_much (run t events).owners (run t events).plain k s.frames (subst (λ (c : Option Open). IsTooMuchOf (run t events).owners (run t events).plain (plain_with c (run t events).plain) k s.frames) closed too))
+        roomy : Roomy (run t events)
+        roomy = roomy_list t events (in_relation None t (rest-is-middle t rest)) (rest_roomy t rest) legal granted
+
+        none : IsTooMuch (run t events).owners (plain_with (run t events).current (run t events).plain) k s.frames → ⊥
+        none too = roomy k s at (subst (λ (c : Option Open). IsTooMuch (run t events).owners (plain_with c (run t events).plain) k s.frames) closed too)
 
     in_storage : m.to ≡ place.Storage → GoesOn (stored (run t events).disk m).1
     in_storage to = without_cause ((one : Open) × ((run t events).current ≡ Some one) × (is_room (run t events).plain.files (effect one.operation (run t events).plain).files.files ≡ false)) (stored (run t events).disk m).1 (λ no. never no.0 no.1) (storage_none (lost_in (run t events).healing) (run t events) m may middle to)

@@ -14,7 +14,14 @@ use Rattle.rest_laws.proofs.Exceeding.{listed_found}
 use Rattle.rest_laws.proofs.Opened.{every}
 use Rattle.rest_laws.specs.Causes.{IsTooMuch}
 use Rattle.healing_laws.proofs.Rising.{below_all}
-use Rattle.healing_laws.specs.Refusals.{IsTooMuchOf}
+
+-- of the plain map f before the open operation, and g once it is complete: more pages that memory k owns are there, before or
+-- after, than it has frames
+pub record IsTooMuchOf (owners : List HomeEntry) (f g : Plain) (k frames : ℕ) : Type 0 where
+  pub pages : List PageImage
+  pub rise : Rises page_key pages
+  pub more : frames < length pages
+  pub there : AllByRecursion (λ (p : PageImage). (owns owners k p.pid.0 (p.vpn.0 / 512) ≡ true) × ((touched f p.pid.0 p.vpn.0 ≡ true) ⊎ (touched g p.pid.0 p.vpn.0 ≡ true))) pages
 
 -- a list of pages that memory k should have before or after, longer than its frames
 pub too_much_of : (n : ℕ) (owners : List HomeEntry) (f g : Plain) (k frames : ℕ) (pages : List PageImage) → PagesFit pages → ((p v : ℕ) → share n owners f k (Page p v) ≡ None → share n owners g k (Page p v) ≡ None → page_in pages p v ≡ None) → frames < length pages → IsTooMuchOf owners f g k frames

@@ -3,9 +3,11 @@
 ghost use Rattle.healing_laws.specs.Beside.{DeliveriesBeside};
 ghost use Rattle.healing_laws.specs.Moving.{DeliveriesKeep, HealingEnds, MoveBegins, MoveEnds, OperationEndsBeside};
 ghost use Rattle.healing_laws.specs.Running.{EveryEventKeeps, EveryListEndsAtRest, EveryListKeeps, LeadsBackThroughCrashes};
-ghost use Rattle.healing_laws.specs.Refusals.{CrashesAloneRefuseNothing, PlainMapsFit, RefusalsHaveCausesThere};
+ghost use Rattle.healing_laws.specs.Refusals.{CrashesAloneRefuseNothing, FramesAreTheMachines, PendingRefusalsHaveCauses, PlainMapsFit, RefusalsHaveCausesThere};
 ghost use Rattle.healing_laws.specs.Forms.{ListsKeepMessagesInForm, MessagesStayInForm};
 ghost use Rattle.healing_laws.specs.Answering.{AnswersAreTrueThere};
+ghost use Rattle.healing_laws.specs.Emptying.{DrainsEmptyThere, EmptyLogsStayThere};
+ghost use Rattle.healing_laws.specs.Playing.{CallsArePlayable, EveryTrackIsPlayable, MarksArePlayable, SomethingIsPending};
 
 /// While a memory is healed, every delivery of a message that isn't the move's keeps the relation, whatever operation is
 /// open.
@@ -61,16 +63,27 @@ pub fn operations_lead_back_through_crashes()
     ensures { LeadsBackThroughCrashes }
 {}
 
+/// At every moment of a legal list, whatever crashed before, each memory has as many frames as the machine gives it.
+pub fn frames_are_the_machines()
+    ensures { FramesAreTheMachines }
+{}
+
 /// At every moment of a legal list, whatever crashed before, a memory has frames for every page that it owns of the plain
 /// map.
 pub fn plain_maps_fit_their_memories()
     ensures { PlainMapsFit }
 {}
 
-/// At every moment of a legal list a component refuses so that the run stops for one of two causes: the open operation needs
-/// more pages of a memory than it has frames, or more blocks than storage has.
+/// At every moment of a legal list a component refuses so that the run stops for one of two causes: of the plain map once the
+/// open operation is complete a memory owns more pages than it has frames, or its files need more blocks than storage has.
 pub fn refusals_have_causes_through_crashes()
     ensures { RefusalsHaveCausesThere }
+{}
+
+/// A refusal that stops the run has its cause as long as it is on its way, whatever crashes meanwhile: it is of a memory that
+/// is full, or of storage.
+pub fn pending_refusals_have_causes()
+    ensures { PendingRefusalsHaveCauses }
 {}
 
 /// With no operation open nothing refuses so that the run stops, whatever crashed and while a memory is healed.
@@ -93,4 +106,38 @@ pub fn lists_keep_messages_in_form()
 /// whatever crashed.
 pub fn answers_are_true_through_crashes()
     ensures { AnswersAreTrueThere }
+{}
+
+/// At every moment of a legal list, whatever crashed: where an operation or a move of a healing is open, nothing of it is
+/// still to be sent, none is complete and no crash is due, something is pending, and so its next event is a delivery.
+pub fn something_comes_through_crashes()
+    ensures { SomethingIsPending }
+{}
+
+/// At every moment of a legal list, whatever crashed, the next event can be played: what is pending is in form for its
+/// component, a refusal that stops the run is of a memory that is there or of storage, memories are in place, the next crash is of one of them, a move of a healing has a number of its own and goes
+/// on, and where something is awaited something is pending.
+pub fn every_track_is_playable()
+    ensures { EveryTrackIsPlayable }
+{}
+
+/// From rest, with one granted operation due and no other one after it, every legal list leads to playable tracks: it stays
+/// granted until it begins, whatever crashes and is healed before.
+pub fn calls_are_playable()
+    ensures { CallsArePlayable }
+{}
+
+/// From rest, with no operation due, every legal list leads to playable tracks.
+pub fn marks_are_playable()
+    ensures { MarksArePlayable }
+{}
+
+/// An operation that doesn't write leaves empty logs empty, whatever crashes on the way.
+pub fn empty_logs_stay_empty_through_crashes()
+    ensures { EmptyLogsStayThere }
+{}
+
+/// A drain leaves the log of its memory empty, whatever it held and whatever crashes on the way.
+pub fn a_drain_leaves_its_log_empty_through_crashes()
+    ensures { DrainsEmptyThere }
 {}

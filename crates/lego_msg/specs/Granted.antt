@@ -49,6 +49,14 @@ abbrev pub CopyFits : List HomeEntry → ℕ → ℕ → MemId → List RegionNo
 CopyFits owners parent child owner [] = Unit {0}
 CopyFits owners parent child owner (r ∷ regions) = (owner_of owners parent r.0 ≡ Some owner) × (owner_of owners child r.0 ≡ Some owner) × CopyFits owners parent child owner regions
 
+abbrev pub is_region_in : ℕ → List RegionNo → Bool
+is_region_in number [] = false
+is_region_in number (r ∷ regions) = r.0 == number || is_region_in number regions
+
+-- and the child, which is new, has no pages there yet
+abbrev pub IsBare : Plain → ℕ → List RegionNo → Type 0
+IsBare f child regions = (vpn : ℕ) → is_region_in (vpn / 512) regions ≡ true → f.page child vpn ≡ None
+
 abbrev pub FileFits : Plain → FileNo → Type 0
 FileFits f file = is_file f.files.files file.0 ≡ true
 
@@ -61,7 +69,8 @@ OpFits owners f (SetsHome pid region owner) = owner_of owners pid.0 region.0 ≡
 OpFits owners f (SetsAreas pid region areas owner) = AreasFit owners f pid.0 region.0 areas owner
 OpFits owners f (AsksAreas pid region owner) = owner_of owners pid.0 region.0 ≡ Some owner
 OpFits owners f (Unmaps pid region first pages areas owner) = UnmapFits owners f pid.0 region.0 first.0 pages areas owner
-OpFits owners f (Copies parent child regions owner) = IsCopy parent.0 child.0 regions × CopyFits owners parent.0 child.0 owner regions
+OpFits owners f (Copies parent child regions owner) =
+    IsCopy parent.0 child.0 regions × CopyFits owners parent.0 child.0 owner regions × IsBare f child.0 regions
 OpFits owners f (ReadsFile file block off len) = FileFits f file × IsInBlock block off len
 OpFits owners f (WritesFile file block off bytes) = FileFits f file × IsInBlock block off (length bytes)
 OpFits owners f (CutsFile file size) = FileFits f file × (size ≤ 16777216)
@@ -70,10 +79,6 @@ OpFits owners f (Heals to what) = ⊥
 OpFits owners f other = Unit {0}
 
 -- LOGS: before pages go or are copied no log has a patch of them. The drains before such an operation see to it.
-
-abbrev pub is_region_in : ℕ → List RegionNo → Bool
-is_region_in number [] = false
-is_region_in number (r ∷ regions) = r.0 == number || is_region_in number regions
 
 -- whether the operation asks that no log has a patch of this page
 abbrev pub asks_clear : Operation → ℕ → ℕ → Bool

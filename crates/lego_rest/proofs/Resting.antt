@@ -37,22 +37,22 @@ never false e f = cc f
 -- THE BEGINNING
 
 -- each memory of the beginning is empty, and has its number
-empty_at : (shape : Shape) (k : ℕ) (frames : List ℕ) (m : ℕ) (s : Mem) → slice_get (empty_mems shape k frames) m ≡ Some s → (id : ℕ) × (room : ℕ) × (id ≡ k + m) × (empty_mem id room shape.log shape.cache_blocks 0 ≡ s)
+empty_at : (shape : Shape) (k : ℕ) (frames : List ℕ) (m : ℕ) (s : Mem) → slice_get (empty_mems shape k frames) m ≡ Some s → (id : ℕ) × (room : ℕ) × (id ≡ k + m) × (empty_mem id room shape.log shape.cache_blocks 0 ≡ s) × (slice_get frames m ≡ Some room)
 empty_at shape k [] m s e = absurd (none_some s e)
-empty_at shape k (room ∷ frames) zero s e = (k, room, omega arith, same e)
+empty_at shape k (room ∷ frames) zero s e = (k, room, omega arith, same e, refl)
   where
     same : {x y : Mem} → Some x ≡ Some y → x ≡ y
     same e = cc e
 empty_at shape k (room ∷ frames) (suc m) s e =
     let there = empty_at shape (k + 1) frames m s e in
-    (there.0, there.1, omega (arith, there.2), there.3)
+    (there.0, there.1, omega (arith, there.2), there.3, there.4)
 
 empty_count : (shape : Shape) (k : ℕ) (frames : List ℕ) → length (empty_mems shape k frames) ≡ length frames
 empty_count shape k [] = refl
 empty_count shape k (room ∷ frames) = ap suc (empty_count shape (k + 1) frames)
 
-empty_fits : (shape : Shape) (m id room : ℕ) → id ≡ m → MemFits shape m (empty_mem id room shape.log shape.cache_blocks 0)
-empty_fits shape m id room e = record {
+empty_fits : (shape : Shape) (m id room : ℕ) → id ≡ m → slice_get shape.frames m ≡ Some room → MemFits shape m (empty_mem id room shape.log shape.cache_blocks 0)
+empty_fits shape m id room e at = record {
   id = e;
   log_room = refl;
   cache_room = refl;
@@ -60,6 +60,7 @@ empty_fits shape m id room e = record {
   spare = record { homes = tt; areas = tt; lists = tt };
   pages = record { rise = tt; whole = tt };
   frames = omega arith;
+  machine = at;
   log = tt;
   room = omega arith;
 }
@@ -110,7 +111,7 @@ module _ (shape : Shape) (due : List Mark) where
     };
     forms = λ m s at.
         let there = empty_at shape 0 shape.frames m s at in
-        subst (MemFits shape m) there.3 (empty_fits shape m there.0 there.1 (omega (arith, there.2)));
+        subst (MemFits shape m) there.3 (empty_fits shape m there.0 there.1 (omega (arith, there.2)) there.4);
     memories = λ m s at.
         let there = empty_at shape 0 shape.frames m s at in
         subst (MemRests (start shape due) m) there.3 (empty_rests m there.0 there.1);

@@ -1,6 +1,6 @@
 -- What components, the plain map and the machine are by themselves, at every moment.
 use Rattle.std.specs.List.{AllByRecursion, filter, list_any}
-use Rattle.std.specs.Prelude.{◌≡◌, ◌⊎◌, ◌/◌, ◌<◌, ◌≤◌, ◌==◌, ◌&&◌, ◌||◌, [], ◌∷◌, ◌++◌, ℕ, Bool, List, None, Option, Some, false, length, take, true}
+use Rattle.std.specs.Prelude.{◌≡◌, ◌⊎◌, ◌/◌, ◌<◌, ◌≤◌, ◌==◌, ◌&&◌, ◌||◌, [], ◌∷◌, ◌++◌, ℕ, Bool, List, None, Option, Some, false, length, slice_get, take, true}
 use Rattle.lego_base.specs.Files.{file_bytes, is_file}
 use Rattle.lego_base.specs.Keys.{Rises}
 use Rattle.lego_base.specs.declared.ids.MemId.{MemId}
@@ -82,6 +82,7 @@ pub record MemFits (shape : Shape) (m : ℕ) (s : Mem) : Type 0 where
   pub spare : KeptFits s.spare
   pub pages : PagesFit s.pages
   pub frames : length s.pages ≤ s.frames
+  pub machine : slice_get shape.frames m ≡ Some s.frames
   pub log : AllByRecursion PatchFits s.log
   pub room : length s.log ≤ s.log_room
 

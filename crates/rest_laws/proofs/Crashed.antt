@@ -456,6 +456,7 @@ module _ (t : Track) (c : ℕ) (s : Mem) (at_c : slice_get t.mems c ≡ Some s) 
             id = fits.id;
             log_room = fits.log_room;
             cache_room = fits.cache_room;
+            machine = fits.machine;
             main = record { homes = tt; areas = tt; lists = tt };
             spare = record { homes = tt; areas = tt; lists = tt };
             pages = record { rise = tt; whole = tt };

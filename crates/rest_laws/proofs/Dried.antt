@@ -52,11 +52,11 @@ use Rattle.lego_msg.specs.declared.body.Body.TheVariants as body
 use Rattle.lego_msg.specs.declared.place.Place.TheVariants as place
 
 -- a message of an operation from memory k
-abbrev is_from : ℕ → ℕ → Message → Bool
+abbrev pub is_from : ℕ → ℕ → Message → Bool
 is_from number k x = x.op.0 == number && same_place x.from (memory k)
 
 -- whether an answer from memory k was noted, or something from it is on its way
-abbrev is_told : ℕ → List Message → Open → Bool
+abbrev pub is_told : ℕ → List Message → Open → Bool
 is_told k pending one = has_answered (memory k) one.answers || list_any (is_from one.number.0 k) pending
 
 pub record IsDry (k : ℕ) (now : Track) : Type 0 where
@@ -79,14 +79,14 @@ no_length : (log : List Patch) → (length log == 0) ≡ true → log ≡ []
 no_length [] e = refl
 no_length (p ∷ log) e = let none = eqb-true (length (p ∷ log)) 0 e in absurd (omega (arith, none))
 
-drain_dry : (number k : ℕ) (s : Mem) (m : Message) → 0 < number → list_any (is_from number k) (handled_body s m body.Drain).1 ≡ true → (handled_body s m body.Drain).0.log ≡ []
+pub drain_dry : (number k : ℕ) (s : Mem) (m : Message) → 0 < number → list_any (is_from number k) (handled_body s m body.Drain).1 ≡ true → (handled_body s m body.Drain).0.log ≡ []
 drain_dry number k s m some = by (length s.log == 0) refl
   where
     by : (b : Bool) → (length s.log == 0) ≡ b → list_any (is_from number k) (cond b (answers s m body.Drained) (batched (logging s s.log s.out (s.drains ++ record { place = m.from; op = m.op.0 } ∷ [])) [])).1 ≡ true → (cond b (answers s m body.Drained) (batched (logging s s.log s.out (s.drains ++ record { place = m.from; op = m.op.0 } ∷ [])) [])).0.log ≡ []
     by true none e = no_length s.log none
     by false more e = ruled number k (logging s s.log s.out (s.drains ++ record { place = m.from; op = m.op.0 } ∷ [])) some e
 
-receipt_dry : (number k : ℕ) (s : Mem) (m : Message) → 0 < number → list_any (is_from number k) (handled_body s m body.BackedUp).1 ≡ true → (handled_body s m body.BackedUp).0.log ≡ []
+pub receipt_dry : (number k : ℕ) (s : Mem) (m : Message) → 0 < number → list_any (is_from number k) (handled_body s m body.BackedUp).1 ≡ true → (handled_body s m body.BackedUp).0.log ≡ []
 receipt_dry number k s m some = by (s.out == 0)
   where
     under : (b : Bool) → (length (drop s.out s.log) == 0) ≡ b → list_any (is_from number k) (cond b (logging s (drop s.out s.log) 0 [], map (drained s.id) s.drains) (batched (logging s (drop s.out s.log) 0 s.drains) [])).1 ≡ true → (cond b (logging s (drop s.out s.log) 0 [], map (drained s.id) s.drains) (batched (logging s (drop s.out s.log) 0 s.drains) [])).0.log ≡ []

@@ -7,10 +7,11 @@ use Rattle.std.specs.List.{AllByRecursion, list_any}
 use Rattle.std.specs.Prelude.{slice_set}
 use Rattle.lego_base.specs.declared.ids.OpNo.{OpNo}
 use Rattle.lego_msg.proofs.Senders.{get_set, get_set_other, same_some}
+use Rattle.lego_msg.specs.Completions.{move_finished, sent_again}
 use Rattle.lego_msg.specs.Deliveries.{MayDeliver, answered, comes, is_sent, issuer_gets, is_waiting, memory_handles, noted, noted_with, reaction_of, reacts, stops, taken}
 use Rattle.lego_msg.specs.Granted.{Granted}
 use Rattle.lego_msg.specs.Legal.{Legal, May}
-use Rattle.lego_msg.specs.Marks.{Call, Mark, Order}
+use Rattle.lego_msg.specs.Marks.{Call, Mark, Order, Show}
 use Rattle.lego_msg.specs.Operations.{Ask, asks_of, messages_of, patch_of, receivers, targets_of}
 use Rattle.lego_msg.specs.Places.{cache_of, is_among, is_issuer, memory, same_place, secondary_of}
 use Rattle.lego_msg.specs.Plain.{Plain}
@@ -18,7 +19,7 @@ use Rattle.lego_msg.specs.Run.{after, run}
 use Rattle.lego_msg.specs.Sends.{IsFirst, MayBegin, MaySend, begins, sent}
 use Rattle.lego_msg.specs.State.{Mem, Waiter}
 use Rattle.lego_msg.specs.Table.{handled, handled_body, stored, stored_body}
-use Rattle.lego_msg.specs.Track.{Track, all_answered, has_answered, is_complete, is_done, is_pending, memory_count, opened}
+use Rattle.lego_msg.specs.Track.{Track, again, all_answered, has_answered, is_complete, is_done, is_pending, memory_count, opened}
 use Rattle.lego_msg.specs.declared.body.Body.{Body}
 use Rattle.lego_msg.specs.declared.body.Body.TheVariants as body
 use Rattle.lego_msg.specs.declared.event.Event.{Event}
@@ -33,7 +34,7 @@ use Rattle.lego_msg.specs.declared.place.Place.TheVariants.{Manager, Memory, Pro
 use Rattle.lego_rest.specs.Answers.{all_pending}
 use Rattle.lego_rest.specs.Fits.{OpenFits, background, batch_message, receipt}
 use Rattle.lego_rest.specs.Pending.{AnAnswer, First, HandedOn, HandsOn, IsPlace, Left, MayPend, OfBackground, OfMove, OfOpen, OfOperation, Pends, Reaction, Reacts}
-use Rattle.lego_rest.specs.Rest.{AtRest, CurrentFits}
+use Rattle.lego_rest.specs.Rest.{AtRest, CurrentFits, Middle}
 use Rattle.rest_laws.proofs.Emptied.{on_its_way}
 use Rattle.rest_laws.proofs.Following.{Follows, IsServed, all_served, drains_follow, file_follows, first_any, is_asked, is_filed, later_any, row_follows, sent_by, waits_for}
 use Rattle.rest_laws.proofs.Goes.{called_of}
@@ -179,8 +180,13 @@ file_row n f o s x k to file of issuer = by o.operation file of
     by (op.FreesFile file) is of = cc is
     by (op.Heals to_ what_) is of = cc is
 
+-- nothing is healed
+pub record Unhurt (now : Track) : Type 0 where
+  pub healed : now.healing ≡ None
+  pub middle : Middle None now
+
 -- DELIVERIES
-module _ (t : Track) (o : Order) (rest : List Mark) (now : Track) (way : Way t o rest now) (one : Open) (current : now.current ≡ Some one) (x : Message) (may : MayDeliver now x) where
+module _ (now : Track) (way : Unhurt now) (one : Open) (current : now.current ≡ Some one) (x : Message) (may : MayDeliver now x) where
   abbrev number : ℕ
   number = one.number.0
 
@@ -524,161 +530,244 @@ module _ (t : Track) (o : Order) (rest : List Mark) (now : Track) (way : Way t o
   dropped_reaches none p (inr (inr waits)) = inr (inr waits)
 
 -- WHAT HOLDS ALONG THE WAY
-record Awaited (now : Track) : Type 0 where
-  one : Open
-  current : now.current ≡ Some one
-  reached : (now.stopped ≡ true) ⊎ AllByRecursion (Reached now.mems (one.unsent ++ (now.net ++ now.owed)) one) one.targets
+pub record Awaited (now : Track) : Type 0 where
+  pub one : Open
+  pub current : now.current ≡ Some one
+  pub reached : (now.stopped ≡ true) ⊎ AllByRecursion (Reached now.mems (one.unsent ++ (now.net ++ now.owed)) one) one.targets
 
 no_length : (ms : List Message) → (length ms == 0) ≡ true → ms ≡ []
 no_length [] e = refl
 no_length (m ∷ ms) e = let none = eqb-true (length (m ∷ ms)) 0 e in absurd (omega (arith, none))
 
+pub deliver_awaits : (now : Track) (x : Message) → MayDeliver now x → Unhurt now → Awaited now → Awaited (comes (taken now) x x.to)
+deliver_awaits now x may way awaited = to_whom x.to refl
+  where
+    unsent : awaited.one.unsent ≡ []
+    unsent = no_length awaited.one.unsent (sym (λ i. is_waiting (way.healed i) (awaited.current i)) ∙ may.waiting)
+
+    known : AllByRecursion (Target (memory_count now.shape) awaited.one.operation awaited.one.number.0 (messages_of awaited.one.by awaited.one.number (asks_of (memory_count now.shape) awaited.one.operation))) awaited.one.targets
+    known = targets now way awaited.one awaited.current x may
+
+    -- what each target was reached by it is reached by still
+    reach_all : (mems : List Mem) (pending : List Message) (after_ : Open) → ((p : Place) → Target (memory_count now.shape) awaited.one.operation awaited.one.number.0 (messages_of awaited.one.by awaited.one.number (asks_of (memory_count now.shape) awaited.one.operation)) p → Reached now.mems (all_pending now) awaited.one p → Reached mems pending after_ p) → AllByRecursion (Reached now.mems (awaited.one.unsent ++ (now.net ++ now.owed)) awaited.one) awaited.one.targets → AllByRecursion (Reached mems (awaited.one.unsent ++ pending) after_) awaited.one.targets
+    reach_all mems pending after_ more all = subst (λ (ms : List Message). AllByRecursion (Reached mems (ms ++ pending) after_) awaited.one.targets) (sym unsent) (each awaited.one.targets known (subst (λ (ms : List Message). AllByRecursion (Reached now.mems (ms ++ (now.net ++ now.owed)) awaited.one) awaited.one.targets) unsent all))
+      where
+        each : (ps : List Place) → AllByRecursion (Target (memory_count now.shape) awaited.one.operation awaited.one.number.0 (messages_of awaited.one.by awaited.one.number (asks_of (memory_count now.shape) awaited.one.operation))) ps → AllByRecursion (Reached now.mems (all_pending now) awaited.one) ps → AllByRecursion (Reached mems pending after_) ps
+        each [] known all = tt
+        each (p ∷ ps) known all = (more p known.0 all.0, each ps known.1 all.1)
+
+    no_owed : (ms : List Message) → ms ++ now.owed ≡ ms ++ []
+    no_owed ms = ap (λ (l : List Message). ms ++ l) may.owed
+
+    -- an issuer
+    taken_awaits : (x.op.0 == awaited.one.number.0) ≡ false → Awaited (taken now)
+    taken_awaits none = record {
+      one = awaited.one;
+      current = awaited.current;
+      reached = elim awaited.reached [
+        | inl stopped_ ↦ inl stopped_
+        | inr all ↦ inr (subst (λ (ms : List Message). AllByRecursion (Reached now.mems (awaited.one.unsent ++ ms) awaited.one) awaited.one.targets) (sym (no_owed (left_of now))) (reach_all now.mems (left_of now ++ []) awaited.one (λ p k r. dropped_reaches now way awaited.one awaited.current x may none p r) all))
+      ];
+    }
+
+    reacts_awaits : is_issuer x.to ≡ true → (r : Option Body) → Awaited (reacts (taken now) awaited.one x r)
+    reacts_awaits issuer None = record {
+      one = answered awaited.one x;
+      current = refl;
+      reached = elim awaited.reached [
+        | inl stopped_ ↦ inl stopped_
+        | inr all ↦ inr (subst (λ (ms : List Message). AllByRecursion (Reached now.mems (awaited.one.unsent ++ ms) (answered awaited.one x)) awaited.one.targets) (sym (no_owed (left_of now))) (reach_all now.mems (left_of now ++ []) (answered awaited.one x) (noted_reaches now way awaited.one awaited.current x may issuer) all))
+      ];
+    }
+    reacts_awaits issuer (Some what) = record {
+      one = awaited.one;
+      current = awaited.current;
+      reached = elim awaited.reached [
+        | inl stopped_ ↦ inl stopped_
+        | inr all ↦ inr (reach_all now.mems (left_of now ++ record { from = x.to; to = x.from; op = x.op; body = what } ∷ []) awaited.one (reacted_reaches now way awaited.one awaited.current x may issuer what) all)
+      ];
+    }
+
+    issuer_awaits : is_issuer x.to ≡ true → Awaited (issuer_gets (taken now) x)
+    issuer_awaits issuer = by (stops x.body)
+      where
+        of_number : (b : Bool) → (x.op.0 == awaited.one.number.0) ≡ b → Awaited (cond b (reacts (taken now) awaited.one x (reaction_of (patch_of awaited.one.operation) x.body)) (taken now))
+        of_number true e = reacts_awaits issuer (reaction_of (patch_of awaited.one.operation) x.body)
+        of_number false e = taken_awaits e
+
+        by : (b : Bool) → Awaited (cond b (record (taken now) { stopped = true }) (noted_with (taken now) x now.healing))
+        by true = record { one = awaited.one; current = awaited.current; reached = inl refl }
+        by false = subst Awaited (sym (ap (noted_with (taken now) x) way.healed ∙ ap (noted (taken now) x) awaited.current)) (of_number (x.op.0 == awaited.one.number.0) refl)
+
+    memory_awaits : (j : ℕ) → x.to ≡ memory j → Awaited (memory_handles (taken now) j x (slice_get now.mems j))
+    memory_awaits j to = subst (λ (c : Option Mem). Awaited (memory_handles (taken now) j x c)) (sym there.1) (record {
+      one = awaited.one;
+      current = awaited.current;
+      reached = elim awaited.reached [
+        | inl stopped_ ↦ inl stopped_
+        | inr all ↦ inr (reach_all (slice_set now.mems j (handled there.0 x).0) (left_of now ++ (handled there.0 x).1) awaited.one (memory_reaches now way awaited.one awaited.current x may j there.0 to there.1) all)
+      ];
+    })
+      where
+        there : (s : Mem) × (slice_get now.mems j ≡ Some s)
+        there =
+            let below : j < memory_count now.shape = subst (IsPlace (memory_count now.shape)) to (pend now way awaited.one awaited.current x may).to in
+            let count = way.middle.count in
+            get_within now.mems j (omega (arith, below, count))
+
+    storage_awaits : x.to ≡ place.Storage → Awaited (record (taken now) { disk = (stored now.disk x).0; owed = (stored now.disk x).1 })
+    storage_awaits to = record {
+      one = awaited.one;
+      current = awaited.current;
+      reached = elim awaited.reached [
+        | inl stopped_ ↦ inl stopped_
+        | inr all ↦ inr (reach_all now.mems (left_of now ++ (stored now.disk x).1) awaited.one (storage_reaches now way awaited.one awaited.current x may to) all)
+      ];
+    }
+
+    to_whom : (to : Place) → x.to ≡ to → Awaited (comes (taken now) x to)
+    to_whom (Processor cpu) is = issuer_awaits (ap is_issuer is)
+    to_whom (Memory k) is = memory_awaits k.0 is
+    to_whom Storage is = storage_awaits is
+    to_whom Manager is = issuer_awaits (ap is_issuer is)
+
+-- SENDS: what is to be sent, what is pending and what is owed are the same messages as before
+pub send_awaits : (now : Track) (x : Message) → MaySend now x now.owed now.healing now.current → now.healing ≡ None → Awaited now → Awaited (sent now x now.owed now.healing now.current)
+send_awaits now x may healed awaited = subst Awaited (sym (λ i. sent now x now.owed (healed i) (awaited.current i))) (by now.owed refl (subst (λ (p : Option Healing × Option Open). MaySend now x now.owed p.0 p.1) (λ i. (healed i, awaited.current i)) may))
+  where
+    owes : (y : Message) (more : List Message) → now.owed ≡ y ∷ more → x ≡ y → (now.net ++ x ∷ []) ++ more ≡ now.net ++ now.owed
+    owes y more owing same = append_assoc now.net (x ∷ []) more ∙ ap (λ (z : Message). now.net ++ z ∷ more) same ∙ ap (λ (ms : List Message). now.net ++ ms) (sym owing)
+
+    -- the first one that is unsent is pending then
+    moved : (test : Message → Bool) (y : Message) (more : List Message) → awaited.one.unsent ≡ y ∷ more → x ≡ y → now.owed ≡ [] → list_any test (awaited.one.unsent ++ (now.net ++ now.owed)) ≡ true → list_any test (more ++ ((now.net ++ x ∷ []) ++ now.owed)) ≡ true
+    moved test y more unsent same none e =
+        list_any-append test more ((now.net ++ x ∷ []) ++ now.owed)
+        ∙ ap (λ (b : Bool). list_any test more || b) (ap (λ (ms : List Message). list_any test ((now.net ++ x ∷ []) ++ ms)) none ∙ ap (list_any test) (append-nil (now.net ++ x ∷ [])) ∙ list_any-append test now.net (x ∷ []))
+        ∙ shuffled (test x) (list_any test more) (list_any test now.net)
+        (sym (ap (λ (ms : List Message). list_any test (ms ++ (now.net ++ now.owed))) unsent ∙ ap (λ (b : Bool). b || list_any test (more ++ (now.net ++ now.owed))) (ap test (sym same)) ∙ ap (λ (b : Bool). test x || b) (list_any-append test more (now.net ++ now.owed) ∙ ap (λ (ms : List Message). list_any test more || list_any test ms) (ap (λ (ms : List Message). now.net ++ ms) none ∙ append-nil now.net))) ∙ e)
+      where
+        shuffled : (a b c : Bool) → (a || (b || c)) ≡ true → (b || (c || (a || false))) ≡ true
+        shuffled true true c e = refl
+        shuffled true false true e = refl
+        shuffled true false false e = refl
+        shuffled false true c e = refl
+        shuffled false false true e = refl
+        shuffled false false false e = cc e
+
+    first_sent : (unsent : List Message) → awaited.one.unsent ≡ unsent → IsFirst x unsent → now.owed ≡ [] → AllByRecursion (Reached now.mems (awaited.one.unsent ++ (now.net ++ now.owed)) awaited.one) awaited.one.targets → AllByRecursion (Reached now.mems (drop 1 unsent ++ ((now.net ++ x ∷ []) ++ now.owed)) (record awaited.one { unsent = drop 1 unsent })) awaited.one.targets
+    first_sent [] is first none all = absurd first
+    first_sent (y ∷ more) is first none all = every reach awaited.one.targets all
+      where
+        reach : (p : Place) → Reached now.mems (awaited.one.unsent ++ (now.net ++ now.owed)) awaited.one p → Reached now.mems (more ++ ((now.net ++ x ∷ []) ++ now.owed)) (record awaited.one { unsent = more }) p
+        reach p (inl answered_) = inl answered_
+        reach p (inr (inl pending)) = inr (inl (moved (concerns awaited.one.number.0 (is_file_change awaited.one.operation) p) y more is first none pending))
+        reach p (inr (inr waits)) = inr (inr waits)
+
+    by : (owed : List Message) → now.owed ≡ owed → MaySend now x owed None (Some awaited.one) → Awaited (sent now x owed None (Some awaited.one))
+    by (y ∷ more) owing may = record {
+      one = awaited.one;
+      current = awaited.current;
+      reached = elim awaited.reached [
+        | inl stopped_ ↦ inl stopped_
+        | inr all ↦ inr (subst (λ (ms : List Message). AllByRecursion (Reached now.mems (awaited.one.unsent ++ ms) awaited.one) awaited.one.targets) (sym (owes y more owing may)) all)
+      ];
+    }
+    by [] owing may = record {
+      one = record awaited.one { unsent = drop 1 awaited.one.unsent };
+      current = refl;
+      reached = elim awaited.reached [
+        | inl stopped_ ↦ inl stopped_
+        | inr all ↦ inr (first_sent awaited.one.unsent refl may.1 owing all)
+      ];
+    }
+
+-- AN OPERATION BEGINS: each of its targets is concerned by a first message
+abbrev pub Calls : List Mark → Type 0
+Calls [] = ⊥
+Calls (Show e ∷ due) = ⊥
+Calls (Call o ∷ due) = IsCalled o.operation
+
+pub begin_awaits : (t : Track) (x : Message) (due : List Mark) → MayBegin t x due → Calls due → Awaited (begins t x due)
+begin_awaits t x [] may called = absurd may
+begin_awaits t x (Show e ∷ due) may called = absurd may
+begin_awaits t x (Call o ∷ due) may called = record {
+  one = record (opened t.shape t.next o.by o.operation) { unsent = drop 1 (opened t.shape t.next o.by o.operation).unsent };
+  current = refl;
+  reached = inr (every reach (targets_of (memory_count t.shape) o.operation) (targets_known (memory_count t.shape) o.by (record { 0 = t.next }) o.operation called));
+}
+  where
+    spread : (test : Message → Bool) (first : List Message) → IsFirst x first → list_any test first ≡ true → list_any test (drop 1 first ++ ((t.net ++ x ∷ []) ++ t.owed)) ≡ true
+    spread test [] is e = absurd is
+    spread test (y ∷ more) is e = list_any-append test more ((t.net ++ x ∷ []) ++ t.owed) ∙ either (test y) (list_any test more) (list_any test ((t.net ++ x ∷ []) ++ t.owed)) e there
+      where
+        there : test y ≡ true → list_any test ((t.net ++ x ∷ []) ++ t.owed) ≡ true
+        there mine = list_any-append test (t.net ++ x ∷ []) t.owed ∙ first_any (list_any test (t.net ++ x ∷ [])) (list_any test t.owed) (list_any-append test t.net (x ∷ []) ∙ later_any (list_any test t.net) (test x || false) (first_any (test x) false (ap test is ∙ mine)))
+
+        either : (a b c : Bool) → (a || b) ≡ true → (a ≡ true → c ≡ true) → (b || c) ≡ true
+        either true b c e back = later_any b c (back refl)
+        either false b c e back = first_any b c e
+
+    reach : (p : Place) → Target (memory_count t.shape) o.operation t.next (messages_of o.by (record { 0 = t.next }) (asks_of (memory_count t.shape) o.operation)) p → Reached t.mems (drop 1 (opened t.shape t.next o.by o.operation).unsent ++ ((t.net ++ x ∷ []) ++ t.owed)) (record (opened t.shape t.next o.by o.operation) { unsent = drop 1 (opened t.shape t.next o.by o.operation).unsent }) p
+    reach p known = inr (inl (spread (concerns t.next (is_file_change o.operation) p) (messages_of o.by (record { 0 = t.next }) (asks_of (memory_count t.shape) o.operation)) may.0 known.concerned))
+
+-- IT IS SENT AGAIN: each of its targets is concerned by a message that is unsent
+pub again_awaits : (t : Track) (h : Healing) (o one : Open) → t.current ≡ Some one → CurrentFits t (Some one) → Awaited (move_finished t h o [])
+again_awaits t h o one is fits = record {
+  one = again t.shape one;
+  current = ap (sent_again t) is;
+  reached = inr (every reach one.targets (subst (AllByRecursion (Target (memory_count t.shape) one.operation one.number.0 (messages_of one.by one.number (asks_of (memory_count t.shape) one.operation)))) (sym fits.0.targets) (targets_known (memory_count t.shape) one.by one.number one.operation (called_of t.owners t.plain one.operation fits.0.fits))));
+}
+  where
+    reach : (p : Place) → Target (memory_count t.shape) one.operation one.number.0 (messages_of one.by one.number (asks_of (memory_count t.shape) one.operation)) p → Reached t.mems ((again t.shape one).unsent ++ (t.net ++ t.owed)) (again t.shape one) p
+    reach p known = inr (inl (list_any-append (concerns one.number.0 (is_file_change one.operation) p) (again t.shape one).unsent (t.net ++ t.owed) ∙ first_any (list_any (concerns one.number.0 (is_file_change one.operation) p) (again t.shape one).unsent) (list_any (concerns one.number.0 (is_file_change one.operation) p) (t.net ++ t.owed)) known.concerned))
+
+-- NOTHING PENDING: then every target has answered, and the operation is complete
+pub comes_on : (now : Track) → Unhurt now → Awaited now → IsUnderWay now → now.net ≡ [] → ⊥
+comes_on now way awaited under none = by awaited.reached
+  where
+    unsent : awaited.one.unsent ≡ []
+    unsent = no_length awaited.one.unsent (sym (ap is_sent awaited.current) ∙ under.sent)
+
+    nothing : awaited.one.unsent ++ (now.net ++ now.owed) ≡ []
+    nothing = λ i. unsent i ++ (none i ++ under.owed i)
+
+    -- a drain that waits has its memory's batch on its way
+    no_wait : (p : Place) → Waits now.mems awaited.one.number.0 p → ⊥
+    no_wait p waits =
+        let holds = way.middle.memories waits.k waits.s tt waits.at in
+        let out : 0 < waits.s.out = holds.batch.waits (some waits.s.drains waits.waits) in
+        elim (holds.batch.once out) [
+          | inl batch ↦ empty (batch_message waits.s) batch
+          | inr receipt_ ↦ empty (receipt waits.s) receipt_.0
+        ]
+      where
+        some : (drains : List Waiter) → waits_for awaited.one.number.0 drains ≡ true → 0 < length drains
+        some [] e = cc e
+        some (w ∷ drains) e = omega arith
+
+        empty : (m : Message) → background waits.s.id (now.net ++ now.owed) ≡ m ∷ [] → ⊥
+        empty m e = let both : [] ≡ m ∷ [] = sym (λ i. background waits.s.id (none i ++ under.owed i)) ∙ e in cc both
+
+    answered_all : (ps : List Place) → AllByRecursion (Reached now.mems (awaited.one.unsent ++ (now.net ++ now.owed)) awaited.one) ps → all_answered ps awaited.one.answers ≡ true
+    answered_all [] all = refl
+    answered_all (p ∷ ps) all = and_true (has_answered p awaited.one.answers) (all_answered ps awaited.one.answers) (one_of all.0) (answered_all ps all.1)
+      where
+        one_of : Reached now.mems (awaited.one.unsent ++ (now.net ++ now.owed)) awaited.one p → has_answered p awaited.one.answers ≡ true
+        one_of (inl answered_) = answered_
+        one_of (inr (inl pending)) = let both : false ≡ true = sym (ap (list_any (concerns awaited.one.number.0 (is_file_change awaited.one.operation) p)) nothing) ∙ pending in cc both
+        one_of (inr (inr waits)) = absurd (no_wait p waits)
+
+    by : (now.stopped ≡ true) ⊎ AllByRecursion (Reached now.mems (awaited.one.unsent ++ (now.net ++ now.owed)) awaited.one) awaited.one.targets → ⊥
+    by (inl stopped_) = let both : true ≡ false = sym stopped_ ∙ under.goes_on in cc both
+    by (inr all) =
+        let complete : is_complete now.net awaited.one ≡ true = (λ i. all_answered awaited.one.targets awaited.one.answers && not (is_pending awaited.one.number.0 (none i))) ∙ ap (λ (b : Bool). b && true) (answered_all awaited.one.targets all) in
+        let both : true ≡ false = sym complete ∙ sym (ap (is_done now.net) awaited.current) ∙ under.incomplete in cc both
+
+-- A LIST without a crash
 module _ (t : Track) (o : Order) (rest : List Mark) where
-  deliver_awaits : (now : Track) (x : Message) → MayDeliver now x → Way t o rest now → Awaited now → Awaited (comes (taken now) x x.to)
-  deliver_awaits now x may way awaited = to_whom x.to refl
-    where
-      unsent : awaited.one.unsent ≡ []
-      unsent = no_length awaited.one.unsent (sym (λ i. is_waiting (way.healed i) (awaited.current i)) ∙ may.waiting)
-
-      known : AllByRecursion (Target (memory_count now.shape) awaited.one.operation awaited.one.number.0 (messages_of awaited.one.by awaited.one.number (asks_of (memory_count now.shape) awaited.one.operation))) awaited.one.targets
-      known = targets t o rest now way awaited.one awaited.current x may
-
-      -- what each target was reached by it is reached by still
-      reach_all : (mems : List Mem) (pending : List Message) (after_ : Open) → ((p : Place) → Target (memory_count now.shape) awaited.one.operation awaited.one.number.0 (messages_of awaited.one.by awaited.one.number (asks_of (memory_count now.shape) awaited.one.operation)) p → Reached now.mems (all_pending now) awaited.one p → Reached mems pending after_ p) → AllByRecursion (Reached now.mems (awaited.one.unsent ++ (now.net ++ now.owed)) awaited.one) awaited.one.targets → AllByRecursion (Reached mems (awaited.one.unsent ++ pending) after_) awaited.one.targets
-      reach_all mems pending after_ more all = subst (λ (ms : List Message). AllByRecursion (Reached mems (ms ++ pending) after_) awaited.one.targets) (sym unsent) (each awaited.one.targets known (subst (λ (ms : List Message). AllByRecursion (Reached now.mems (ms ++ (now.net ++ now.owed)) awaited.one) awaited.one.targets) unsent all))
-        where
-          each : (ps : List Place) → AllByRecursion (Target (memory_count now.shape) awaited.one.operation awaited.one.number.0 (messages_of awaited.one.by awaited.one.number (asks_of (memory_count now.shape) awaited.one.operation))) ps → AllByRecursion (Reached now.mems (all_pending now) awaited.one) ps → AllByRecursion (Reached mems pending after_) ps
-          each [] known all = tt
-          each (p ∷ ps) known all = (more p known.0 all.0, each ps known.1 all.1)
-
-      no_owed : (ms : List Message) → ms ++ now.owed ≡ ms ++ []
-      no_owed ms = ap (λ (l : List Message). ms ++ l) may.owed
-
-      -- an issuer
-      taken_awaits : (x.op.0 == awaited.one.number.0) ≡ false → Awaited (taken now)
-      taken_awaits none = record {
-        one = awaited.one;
-        current = awaited.current;
-        reached = elim awaited.reached [
-          | inl stopped_ ↦ inl stopped_
-          | inr all ↦ inr (subst (λ (ms : List Message). AllByRecursion (Reached now.mems (awaited.one.unsent ++ ms) awaited.one) awaited.one.targets) (sym (no_owed (left_of now))) (reach_all now.mems (left_of now ++ []) awaited.one (λ p k r. dropped_reaches t o rest now way awaited.one awaited.current x may none p r) all))
-        ];
-      }
-
-      reacts_awaits : is_issuer x.to ≡ true → (r : Option Body) → Awaited (reacts (taken now) awaited.one x r)
-      reacts_awaits issuer None = record {
-        one = answered awaited.one x;
-        current = refl;
-        reached = elim awaited.reached [
-          | inl stopped_ ↦ inl stopped_
-          | inr all ↦ inr (subst (λ (ms : List Message). AllByRecursion (Reached now.mems (awaited.one.unsent ++ ms) (answered awaited.one x)) awaited.one.targets) (sym (no_owed (left_of now))) (reach_all now.mems (left_of now ++ []) (answered awaited.one x) (noted_reaches t o rest now way awaited.one awaited.current x may issuer) all))
-        ];
-      }
-      reacts_awaits issuer (Some what) = record {
-        one = awaited.one;
-        current = awaited.current;
-        reached = elim awaited.reached [
-          | inl stopped_ ↦ inl stopped_
-          | inr all ↦ inr (reach_all now.mems (left_of now ++ record { from = x.to; to = x.from; op = x.op; body = what } ∷ []) awaited.one (reacted_reaches t o rest now way awaited.one awaited.current x may issuer what) all)
-        ];
-      }
-
-      issuer_awaits : is_issuer x.to ≡ true → Awaited (issuer_gets (taken now) x)
-      issuer_awaits issuer = by (stops x.body)
-        where
-          of_number : (b : Bool) → (x.op.0 == awaited.one.number.0) ≡ b → Awaited (cond b (reacts (taken now) awaited.one x (reaction_of (patch_of awaited.one.operation) x.body)) (taken now))
-          of_number true e = reacts_awaits issuer (reaction_of (patch_of awaited.one.operation) x.body)
-          of_number false e = taken_awaits e
-
-          by : (b : Bool) → Awaited (cond b (record (taken now) { stopped = true }) (noted_with (taken now) x now.healing))
-          by true = record { one = awaited.one; current = awaited.current; reached = inl refl }
-          by false = subst Awaited (sym (ap (noted_with (taken now) x) way.healed ∙ ap (noted (taken now) x) awaited.current)) (of_number (x.op.0 == awaited.one.number.0) refl)
-
-      memory_awaits : (j : ℕ) → x.to ≡ memory j → Awaited (memory_handles (taken now) j x (slice_get now.mems j))
-      memory_awaits j to = subst (λ (c : Option Mem). Awaited (memory_handles (taken now) j x c)) (sym there.1) (record {
-        one = awaited.one;
-        current = awaited.current;
-        reached = elim awaited.reached [
-          | inl stopped_ ↦ inl stopped_
-          | inr all ↦ inr (reach_all (slice_set now.mems j (handled there.0 x).0) (left_of now ++ (handled there.0 x).1) awaited.one (memory_reaches t o rest now way awaited.one awaited.current x may j there.0 to there.1) all)
-        ];
-      })
-        where
-          there : (s : Mem) × (slice_get now.mems j ≡ Some s)
-          there =
-              let below : j < memory_count now.shape = subst (IsPlace (memory_count now.shape)) to (pend t o rest now way awaited.one awaited.current x may).to in
-              let count = way.middle.count in
-              get_within now.mems j (omega (arith, below, count))
-
-      storage_awaits : x.to ≡ place.Storage → Awaited (record (taken now) { disk = (stored now.disk x).0; owed = (stored now.disk x).1 })
-      storage_awaits to = record {
-        one = awaited.one;
-        current = awaited.current;
-        reached = elim awaited.reached [
-          | inl stopped_ ↦ inl stopped_
-          | inr all ↦ inr (reach_all now.mems (left_of now ++ (stored now.disk x).1) awaited.one (storage_reaches t o rest now way awaited.one awaited.current x may to) all)
-        ];
-      }
-
-      to_whom : (to : Place) → x.to ≡ to → Awaited (comes (taken now) x to)
-      to_whom (Processor cpu) is = issuer_awaits (ap is_issuer is)
-      to_whom (Memory k) is = memory_awaits k.0 is
-      to_whom Storage is = storage_awaits is
-      to_whom Manager is = issuer_awaits (ap is_issuer is)
-
-  -- SENDS: what is to be sent, what is pending and what is owed are the same messages as before
-  send_awaits : (now : Track) (x : Message) → MaySend now x now.owed now.healing now.current → now.healing ≡ None → Awaited now → Awaited (sent now x now.owed now.healing now.current)
-  send_awaits now x may healed awaited = subst Awaited (sym (λ i. sent now x now.owed (healed i) (awaited.current i))) (by now.owed refl (subst (λ (p : Option Healing × Option Open). MaySend now x now.owed p.0 p.1) (λ i. (healed i, awaited.current i)) may))
-    where
-      owes : (y : Message) (more : List Message) → now.owed ≡ y ∷ more → x ≡ y → (now.net ++ x ∷ []) ++ more ≡ now.net ++ now.owed
-      owes y more owing same = append_assoc now.net (x ∷ []) more ∙ ap (λ (z : Message). now.net ++ z ∷ more) same ∙ ap (λ (ms : List Message). now.net ++ ms) (sym owing)
-
-      -- the first one that is unsent is pending then
-      moved : (test : Message → Bool) (y : Message) (more : List Message) → awaited.one.unsent ≡ y ∷ more → x ≡ y → now.owed ≡ [] → list_any test (awaited.one.unsent ++ (now.net ++ now.owed)) ≡ true → list_any test (more ++ ((now.net ++ x ∷ []) ++ now.owed)) ≡ true
-      moved test y more unsent same none e =
-          list_any-append test more ((now.net ++ x ∷ []) ++ now.owed)
-          ∙ ap (λ (b : Bool). list_any test more || b) (ap (λ (ms : List Message). list_any test ((now.net ++ x ∷ []) ++ ms)) none ∙ ap (list_any test) (append-nil (now.net ++ x ∷ [])) ∙ list_any-append test now.net (x ∷ []))
-          ∙ shuffled (test x) (list_any test more) (list_any test now.net)
-          (sym (ap (λ (ms : List Message). list_any test (ms ++ (now.net ++ now.owed))) unsent ∙ ap (λ (b : Bool). b || list_any test (more ++ (now.net ++ now.owed))) (ap test (sym same)) ∙ ap (λ (b : Bool). test x || b) (list_any-append test more (now.net ++ now.owed) ∙ ap (λ (ms : List Message). list_any test more || list_any test ms) (ap (λ (ms : List Message). now.net ++ ms) none ∙ append-nil now.net))) ∙ e)
-        where
-          shuffled : (a b c : Bool) → (a || (b || c)) ≡ true → (b || (c || (a || false))) ≡ true
-          shuffled true true c e = refl
-          shuffled true false true e = refl
-          shuffled true false false e = refl
-          shuffled false true c e = refl
-          shuffled false false true e = refl
-          shuffled false false false e = cc e
-
-      first_sent : (unsent : List Message) → awaited.one.unsent ≡ unsent → IsFirst x unsent → now.owed ≡ [] → AllByRecursion (Reached now.mems (awaited.one.unsent ++ (now.net ++ now.owed)) awaited.one) awaited.one.targets → AllByRecursion (Reached now.mems (drop 1 unsent ++ ((now.net ++ x ∷ []) ++ now.owed)) (record awaited.one { unsent = drop 1 unsent })) awaited.one.targets
-      first_sent [] is first none all = absurd first
-      first_sent (y ∷ more) is first none all = every reach awaited.one.targets all
-        where
-          reach : (p : Place) → Reached now.mems (awaited.one.unsent ++ (now.net ++ now.owed)) awaited.one p → Reached now.mems (more ++ ((now.net ++ x ∷ []) ++ now.owed)) (record awaited.one { unsent = more }) p
-          reach p (inl answered_) = inl answered_
-          reach p (inr (inl pending)) = inr (inl (moved (concerns awaited.one.number.0 (is_file_change awaited.one.operation) p) y more is first none pending))
-          reach p (inr (inr waits)) = inr (inr waits)
-
-      by : (owed : List Message) → now.owed ≡ owed → MaySend now x owed None (Some awaited.one) → Awaited (sent now x owed None (Some awaited.one))
-      by (y ∷ more) owing may = record {
-        one = awaited.one;
-        current = awaited.current;
-        reached = elim awaited.reached [
-          | inl stopped_ ↦ inl stopped_
-          | inr all ↦ inr (subst (λ (ms : List Message). AllByRecursion (Reached now.mems (awaited.one.unsent ++ ms) awaited.one) awaited.one.targets) (sym (owes y more owing may)) all)
-        ];
-      }
-      by [] owing may = record {
-        one = record awaited.one { unsent = drop 1 awaited.one.unsent };
-        current = refl;
-        reached = elim awaited.reached [
-          | inl stopped_ ↦ inl stopped_
-          | inr all ↦ inr (first_sent awaited.one.unsent refl may.1 owing all)
-        ];
-      }
-
   step : (now : Track) (e : Event) → May now e → IsOfMessages e → Way t o rest now → Awaited now → Awaited (after now e)
   step now (Send x) may of way awaited = send_awaits now x may way.healed awaited
-  step now (Deliver x) may of way awaited = deliver_awaits now x may way awaited
+  step now (Deliver x) may of way awaited = deliver_awaits now x may (record { healed = way.healed; middle = way.middle }) awaited
   step now (Turn turn pid) may of way awaited = absurd of
   step now (Access cpu pid address kind bytes) may of way awaited = absurd of
   step now (Fill pid address bytes) may of way awaited = absurd of
@@ -693,78 +782,15 @@ module _ (t : Track) (o : Order) (rest : List Mark) where
 
   module _ (at_rest : AtRest t) (due : t.due ≡ Call o ∷ rest) (granted : Granted t o.by o.operation (owners_with o t.owners)) where
     base : (x : Message) → May t (Send x) → Awaited (after t (Send x))
-    base x may = subst Awaited (sym begun) (record {
-      one = record (opened t.shape t.next o.by o.operation) { unsent = drop 1 (opened t.shape t.next o.by o.operation).unsent };
-      current = refl;
-      reached = inr (every reach (targets_of (memory_count t.shape) o.operation) (targets_known (memory_count t.shape) o.by (record { 0 = t.next }) o.operation (called_of (owners_with o t.owners) t.plain o.operation granted.fits)));
-    })
+    base x may = subst Awaited (sym begun) (begin_awaits t x (Call o ∷ rest) (subst (λ (d : List Mark). MayBegin t x d) due (subst (λ (p : List Message × Option Healing × Option Open). MaySend t x p.0 p.1 p.2) (λ i. (at_rest.owed i, at_rest.healed i, at_rest.closed i)) may).1) (called_of (owners_with o t.owners) t.plain o.operation granted.fits))
       where
         begun : sent t x t.owed t.healing t.current ≡ begins t x (Call o ∷ rest)
         begun = (λ i. sent t x (at_rest.owed i) (at_rest.healed i) (at_rest.closed i)) ∙ ap (begins t x) due
 
-        is_first : IsFirst x (messages_of o.by (record { 0 = t.next }) (asks_of (memory_count t.shape) o.operation))
-        is_first = (subst (λ (d : List Mark). MayBegin t x d) due (subst (λ (p : List Message × Option Healing × Option Open). MaySend t x p.0 p.1 p.2) (λ i. (at_rest.owed i, at_rest.healed i, at_rest.closed i)) may).1).0
-
-        spread : (test : Message → Bool) (first : List Message) → IsFirst x first → list_any test first ≡ true → list_any test (drop 1 first ++ ((t.net ++ x ∷ []) ++ t.owed)) ≡ true
-        spread test [] is e = absurd is
-        spread test (y ∷ more) is e = list_any-append test more ((t.net ++ x ∷ []) ++ t.owed) ∙ either (test y) (list_any test more) (list_any test ((t.net ++ x ∷ []) ++ t.owed)) e there
-          where
-            there : test y ≡ true → list_any test ((t.net ++ x ∷ []) ++ t.owed) ≡ true
-            there mine = list_any-append test (t.net ++ x ∷ []) t.owed ∙ first_any (list_any test (t.net ++ x ∷ [])) (list_any test t.owed) (list_any-append test t.net (x ∷ []) ∙ later_any (list_any test t.net) (test x || false) (first_any (test x) false (ap test is ∙ mine)))
-
-            either : (a b c : Bool) → (a || b) ≡ true → (a ≡ true → c ≡ true) → (b || c) ≡ true
-            either true b c e back = later_any b c (back refl)
-            either false b c e back = first_any b c e
-
-        reach : (p : Place) → Target (memory_count t.shape) o.operation t.next (messages_of o.by (record { 0 = t.next }) (asks_of (memory_count t.shape) o.operation)) p → Reached t.mems (drop 1 (opened t.shape t.next o.by o.operation).unsent ++ ((t.net ++ x ∷ []) ++ t.owed)) (record (opened t.shape t.next o.by o.operation) { unsent = drop 1 (opened t.shape t.next o.by o.operation).unsent }) p
-        reach p known = inr (inl (spread (concerns t.next (is_file_change o.operation) p) (messages_of o.by (record { 0 = t.next }) (asks_of (memory_count t.shape) o.operation)) is_first known.concerned))
-
-    -- NOTHING PENDING: then every target has answered, and the operation is complete
-    comes_on : (now : Track) → Way t o rest now → Awaited now → IsUnderWay now → now.net ≡ [] → ⊥
-    comes_on now way awaited under none = by awaited.reached
-      where
-        unsent : awaited.one.unsent ≡ []
-        unsent = no_length awaited.one.unsent (sym (ap is_sent awaited.current) ∙ under.sent)
-
-        nothing : awaited.one.unsent ++ (now.net ++ now.owed) ≡ []
-        nothing = λ i. unsent i ++ (none i ++ under.owed i)
-
-        -- a drain that waits has its memory's batch on its way
-        no_wait : (p : Place) → Waits now.mems awaited.one.number.0 p → ⊥
-        no_wait p waits =
-            let holds = way.middle.memories waits.k waits.s tt waits.at in
-            let out : 0 < waits.s.out = holds.batch.waits (some waits.s.drains waits.waits) in
-            elim (holds.batch.once out) [
-              | inl batch ↦ empty (batch_message waits.s) batch
-              | inr receipt_ ↦ empty (receipt waits.s) receipt_.0
-            ]
-          where
-            some : (drains : List Waiter) → waits_for awaited.one.number.0 drains ≡ true → 0 < length drains
-            some [] e = cc e
-            some (w ∷ drains) e = omega arith
-
-            empty : (m : Message) → background waits.s.id (now.net ++ now.owed) ≡ m ∷ [] → ⊥
-            empty m e = let both : [] ≡ m ∷ [] = sym (λ i. background waits.s.id (none i ++ under.owed i)) ∙ e in cc both
-
-        answered_all : (ps : List Place) → AllByRecursion (Reached now.mems (awaited.one.unsent ++ (now.net ++ now.owed)) awaited.one) ps → all_answered ps awaited.one.answers ≡ true
-        answered_all [] all = refl
-        answered_all (p ∷ ps) all = and_true (has_answered p awaited.one.answers) (all_answered ps awaited.one.answers) (one_of all.0) (answered_all ps all.1)
-          where
-            one_of : Reached now.mems (awaited.one.unsent ++ (now.net ++ now.owed)) awaited.one p → has_answered p awaited.one.answers ≡ true
-            one_of (inl answered_) = answered_
-            one_of (inr (inl pending)) = let both : false ≡ true = sym (ap (list_any (concerns awaited.one.number.0 (is_file_change awaited.one.operation) p)) nothing) ∙ pending in cc both
-            one_of (inr (inr waits)) = absurd (no_wait p waits)
-
-        by : (now.stopped ≡ true) ⊎ AllByRecursion (Reached now.mems (awaited.one.unsent ++ (now.net ++ now.owed)) awaited.one) awaited.one.targets → ⊥
-        by (inl stopped_) = let both : true ≡ false = sym stopped_ ∙ under.goes_on in cc both
-        by (inr all) =
-            let complete : is_complete now.net awaited.one ≡ true = (λ i. all_answered awaited.one.targets awaited.one.answers && not (is_pending awaited.one.number.0 (none i))) ∙ ap (λ (b : Bool). b && true) (answered_all awaited.one.targets all) in
-            let both : true ≡ false = sym complete ∙ sym (ap (is_done now.net) awaited.current) ∙ under.incomplete in cc both
-
     pub something : (m : Message) (events : List Event) → Legal t (Send m ∷ events) → AllByRecursion IsOfMessages events → IsUnderWay (run t (Send m ∷ events)) → (run t (Send m ∷ events)).net ≡ [] → ⊥
     something m events legal all under none =
         let on = awaits_on (after t (Send m)) events legal.1 all (sets_out t o rest at_rest due granted m legal.0) (base m legal.0) in
-        comes_on (run t (Send m ∷ events)) on.0 on.1 under none
+        comes_on (run t (Send m ∷ events)) (record { healed = on.0.healed; middle = on.0.middle }) on.1 under none
 
 pub something-comes : SomethingComes
 something-comes t o rest m events is legal all under none = something t o rest is.rests is.due is.granted m events legal all under none

@@ -162,6 +162,7 @@ module _ (lost : Option ℕ) (t : Track) (m : Message) (k : ℕ) (s : Mem) (may 
       id = was.id;
       log_room = was.log_room;
       cache_room = was.cache_room;
+      machine = was.machine;
       main = was.main;
       spare = was.spare;
       pages = was.pages;

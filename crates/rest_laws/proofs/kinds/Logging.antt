@@ -177,6 +177,7 @@ module _ (lost : Option ℕ) (t : Track) (o : Open) (k : ℕ) (s : Mem) (m : Mes
           id = was.id;
           log_room = was.log_room;
           cache_room = was.cache_room;
+          machine = was.machine;
           main = was.main;
           spare = was.spare;
           pages = was.pages;
