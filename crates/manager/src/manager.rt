@@ -89,6 +89,13 @@ impl Manager {
         self.procs.live()
     }
 
+    /// Whether there is room for no further process: there are at most 64, zombies counted.
+    pub fn is_full(&self) -> bool
+        ensures { result ≡ nat_le PROCESSES (length self.now.procs) }
+    {
+        self.procs.is_full()
+    }
+
     /// The pid that was given last; 0 before the first.
     pub fn last(&self) -> u32
         ensures { result ≡ self.now.last }
@@ -185,11 +192,12 @@ impl Manager {
         self.procs.set_waiting(pid, Some(waiting));
     }
 
-    /// What a descriptor of a process is open on; `None` exactly where it isn't open. The description is there, and the pipe of
-    /// an end.
+    /// What a descriptor of a process is open on; `None` exactly where it isn't open. The descriptor is below 64, and the
+    /// description is there, as is the pipe of an end.
     pub fn opened(&self, pid: Pid, fd: u64) -> Option<Opened>
         ensures entry { option_map entry_of result ≡ slot (fds_of (process self.now.procs pid.0)) fd }
         ensures is { (k : Kernel) → option_map open_of result ≡ option_and_then (λ p. opened p fd (with_managed self.now k)) (process self.now.procs pid.0) }
+        ensures within { IfSome result (λ o. fd < DESCRIPTORS) }
         ensures there { IfSome result (λ o. slot self.now.descs o.desc ≡ Some o.is) }
         ensures pipe { IfSome result (λ o. PipeThere self.now.pipes o.is.object) }
     {
@@ -298,14 +306,14 @@ impl Manager {
     }
 
     /// A free descriptor of a process that lives gets the description of another one, as dup(2) and dup3(2) share it.
-    pub fn dup(&mut self, pid: Pid, from: u32, to: u32, cloexec: bool)
+    pub fn dup(&mut self, pid: Pid, from: u64, to: u32, cloexec: bool)
         requires alive { is_alive pid.0 self.old ≡ true }
         requires from { is_some (slot (fds_of (process self.old.procs pid.0)) from) ≡ true }
         requires to { to < DESCRIPTORS }
         requires free { slot (fds_of (process self.old.procs pid.0)) to ≡ None }
         ensures { IfSome (slot (fds_of (process self.old.procs pid.0)) from) (λ e. self.new ≡ managed_after (Shares pid.0 to e.desc cloexec) self.old) }
     {
-        if let Some(entry) = self.procs.fd(pid, u64::from(from)) {
+        if let Some(entry) = self.procs.fd(pid, from) {
             self.descs.share(entry.desc);
             let shared = FdEntry {
                 desc: entry.desc,

@@ -4,7 +4,7 @@ use Rattle.linux_model.specs.Processes.{fds_of, process}
 use Rattle.linux_model.specs.Managed.{Managed}
 use Rattle.manager.specs.Tables.{PipeThere}
 use Rattle.manager.proofs.Closed.{pipe_there}
-use Rattle.manager.proofs.Closing.{reads_fewer, writes_fewer}
+use Rattle.manager.proofs.Closing.{open_below, reads_fewer, writes_fewer}
 use Rattle.manager.proofs.Open.{entry_there}
 use Rattle.manager.proofs.manager.Manager.opened.Goals as goal
 
@@ -16,6 +16,11 @@ returns-in_err-description-clause-entry c =
     let none : slot c.self.inside.descs.descs e.desc ≡ None = search rules in
     let gone = ap (λ o. is_some o) none in
     absurd (cc (there, gone))
+
+pub returns-clause-within : goal.returns-clause-within
+returns-clause-within c =
+    let is_open : slot (fds_of (process c.self.inside.procs.procs c.args.pid.0)) c.args.fd ≡ Some c.in_ok-entry.entry = search rules in
+    open_below c.self.inside.procs c.self.inside.descs c.self.inside.pipes c.args.pid.0 c.args.fd c.in_ok-entry.entry c.self.invariant.counted is_open
 
 pub returns-clause-pipe : goal.returns-clause-pipe
 returns-clause-pipe c =
