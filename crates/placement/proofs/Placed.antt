@@ -1,6 +1,6 @@
 -- Laws of the rule of owners.
-use Rattle.std.proofs.Common.{◌≡◌, ◌+◌, ◌&&◌, [], ◌∷◌, ◌∙◌, ℕ, Bool, List, Option, Some, ap, arith, cond, eqb, false, refl, sym, true}
-use Rattle.lego_base.specs.Keys.{IsAbove, Key, Rises, find, is_below, is_of, key_at, put, put_all, same_key}
+use Rattle.std.proofs.Common.{◌≡◌, ◌+◌, ◌&&◌, [], ◌∷◌, ◌∙◌, ℕ, Bool, List, Option, Some, ap, arith, cond, eqb, false, refl, true}
+use Rattle.lego_base.specs.Keys.{IsAbove, Rises, find, is_of, key_at, put, put_all}
 use Rattle.lego_base.specs.declared.records.HomeEntry.{HomeEntry}
 use Rattle.lego_msg.specs.Maps.{home_key, owned_by, owner_in}
 use Rattle.keyed_list.proofs.Listed.{Rises-put, Rises-without, above_rest, find-put}

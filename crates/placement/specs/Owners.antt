@@ -91,3 +91,10 @@ kept_none pid region (Some owner) placings = placings
 abbrev pub mapped : Pid → List RegionNo → List HomeEntry → List Placing
 mapped pid [] owners = []
 mapped pid (region ∷ regions) owners = kept_none pid region (owner_of owners pid.0 region.0) (mapped pid regions owners)
+
+-- the entries of assignments, the first of which has this number from 0
+abbrev pub entries_of : List MemId → ℕ → List Placing → List HomeEntry
+entries_of placement k [] = []
+entries_of placement k (Assigns pid region ∷ placings) = entry pid region (in_turn placement k) ∷ entries_of placement (k + 1) placings
+entries_of placement k (Inherits parent child ∷ placings) = entries_of placement k placings
+entries_of placement k (Drops pid ∷ placings) = entries_of placement k placings

@@ -1,12 +1,13 @@
 //! The table of owners.
 
 ghost use Rattle.std.specs.Prelude.{◌≡◌, ◌<◌, length, IfOk, OnOk, OnErr};
-ghost use Rattle.lego_msg.specs.Maps.{owner_of, owned_by as entries_of};
-ghost use Rattle.placement.specs.Owners.{assigned, dropped, in_turn as turn_of, inherited, next_owner, no_owners, spaces_in};
+ghost use Rattle.lego_base.specs.Keys.{put_all};
+ghost use Rattle.lego_msg.specs.Maps.{home_key, owner_of, owned_by as owned_entries};
+ghost use Rattle.placement.specs.Owners.{assigned, dropped, entries_of, in_turn as turn_of, inherited, mapped, next_owner, no_owners, placed_all, spaces_in};
 
-use crate::entries::{inherited_in, spaces_of};
+use crate::entries::{inherited_in, spaces_of, unowned_in, with_all};
 use keyed_list::{get, put, remove_process};
-use lego_base::{HomeEntry, MemId, NoMemory, Pid, RegionNo, Spaces};
+use lego_base::{HomeEntry, MemId, NoMemory, Pid, RegionNo, Seq, Spaces};
 use std::alloc::Global;
 use std::marker::Model;
 
@@ -69,6 +70,39 @@ impl Table {
         Ok(owner)
     }
 
+    /// Gives those of a mapping's regions that have no owner theirs, by turns and in their order, and returns their entries.
+    /// Fails as [`assign`](Table::assign) does.
+    pub fn assign_unowned(
+        &mut self,
+        pid: Pid,
+        regions: &[RegionNo],
+    ) -> Result<Seq<HomeEntry>, NoMemory>
+        ensures ok { OnOk result (self.new ≡ placed_all (mapped pid regions.now self.old.owners) self.old) }
+        ensures new { IfOk result (λ new. new ≡ entries_of self.old.placement self.old.given (mapped pid regions.now self.old.owners)) }
+        ensures put { IfOk result (λ new. self.new.owners ≡ put_all home_key new self.old.owners) }
+        ensures err { OnErr result (self.new ≡ self.old) }
+    {
+        let alloc = *self.owners.allocator();
+        let owners = self.owners.as_slice();
+        let new = unowned_in(
+            owners,
+            alloc,
+            self.placement.as_slice(),
+            self.given,
+            pid,
+            regions,
+        )?;
+        if new.is_empty() {
+            return Ok(Seq::from_vec(new));
+        }
+        let Some(assigned) = self.given.checked_add(new.len() as u64) else {
+            return Err(NoMemory);
+        };
+        self.owners = with_all(owners, alloc, new.as_slice())?;
+        self.given = assigned;
+        Ok(Seq::from_vec(new))
+    }
+
     /// Gives a child's regions the owners that its parent's have.
     pub fn inherit(&mut self, parent: Pid, child: Pid) -> Result<(), NoMemory>
         ensures ok { OnOk result (self.new ≡ inherited parent child self.old) }
@@ -93,7 +127,7 @@ impl Table {
 
     /// The regions that a memory owns, in rising order of process and region.
     pub fn owned_by(&self, alloc: Global, memory: MemId) -> Result<Spaces, NoMemory>
-        ensures { IfOk result (λ spaces. spaces ≡ spaces_in (entries_of memory.0 self.now.owners)) }
+        ensures { IfOk result (λ spaces. spaces ≡ spaces_in (owned_entries memory.0 self.now.owners)) }
     {
         spaces_of(self.owners.as_slice(), alloc, memory)
     }
@@ -107,7 +141,7 @@ impl Table {
 }
 
 // Whose turn it is at the assignment with this number, from 0.
-fn in_turn(placement: &[MemId], number: u64) -> MemId
+pub(crate) fn in_turn(placement: &[MemId], number: u64) -> MemId
     requires { 0 < length placement.now }
     ensures { result ≡ turn_of placement.now number }
 {

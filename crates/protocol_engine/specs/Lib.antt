@@ -1,0 +1,12 @@
+pub mod Opening
+pub mod Healings
+pub mod Beyond
+pub mod Tracks
+pub mod Later
+pub mod Steps
+pub mod Messages
+pub mod Called
+pub mod Sound
+pub mod Turns
+pub mod Booting
+pub mod Ways
