@@ -1,0 +1,5 @@
+pub mod Wholes
+pub mod Granting
+pub mod Asking
+pub mod Calling
+pub mod Turns

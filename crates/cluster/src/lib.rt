@@ -1,0 +1,20 @@
+//! The cluster: memories, storage and the network between them, as one plain map of bytes, areas and files.
+//!
+//! Contracts see a [`Cluster`] as what its components hold, what is pending and how far the run is (`Whole` of
+//! `specs/Whole`), and its track, `track_at`, for whatever no component holds: the plain map, the caches and what is still to
+//! come. A call is a way from track to track (`Went`); where it halts, the last event is the cause (`Halted`).
+#![tactic(auto)]
+
+mod asks;
+mod cluster;
+mod files;
+mod lines;
+mod names;
+mod reads;
+mod regions;
+
+pub use cluster::Cluster;
+pub use reads::LineRead;
+
+#[cfg(test)]
+mod tests;
