@@ -1,3 +1,4 @@
+pub mod Going
 pub mod Rows
 pub mod Stops
 pub mod Tried

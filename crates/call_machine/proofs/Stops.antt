@@ -7,7 +7,7 @@ use Rattle.call_machine.specs.Lawful.{Lawful}
 use Rattle.call_machine.specs.Laws.{effects_of, StopsFollow}
 
 -- the effects of what follows others
-following_has : (es : List Effect) (rest : Called) → effects_of (following es rest) ≡ es ++ effects_of rest
+pub following_has : (es : List Effect) (rest : Called) → effects_of (following es rest) ≡ es ++ effects_of rest
 following_has es (Gives effects value) = refl
 following_has es (Becomes effects cpu) = refl
 following_has es (Waits effects moved len) = refl

@@ -1,6 +1,6 @@
 //! The machine under the kernel.
-ghost use Rattle.std.specs.Prelude.{◌≡◌, ◌+◌, ◌≤◌, ℕ, true, None, List, [], ◌∷◌, OnOk, IfOk, length};
-ghost use Rattle.lego_base.specs.declared.sizes.TheConstants.{LONGEST_FILE, PAGES_END};
+ghost use Rattle.std.specs.Prelude.{◌≡◌, ◌+◌, ◌<◌, ◌≤◌, ℕ, true, None, List, [], ◌∷◌, OnOk, IfOk, IfSome, length, max};
+ghost use Rattle.lego_base.specs.declared.sizes.TheConstants.{LONGEST_FILE, PAGES_END, USER_END};
 ghost use Rattle.lego_base.specs.Files.{file_bytes, is_file, named};
 ghost use Rattle.lego_base.specs.Pieces.{piece};
 ghost use Rattle.lego_base.specs.Space.{no_space, permits};
@@ -31,10 +31,12 @@ pub trait Machine {
     /// The machine stopped while it did effects.
     ghost stops: { Self → Self → List Effect → Type 0 };
 
-    /// Whether each of `len` bytes may be read (`need` 1) or written (2). The areas that they meet are asked for.
+    /// Whether each of `len` bytes may be read (`need` 1) or written (2). The areas that they meet are asked for. Bytes that
+    /// may be are below the end of user space.
     fn check_span(&mut self, pid: Pid, at: u64, len: u64, need: u8) -> Result<bool, Halt>
         ensures does { OnOk result (does self.old self.new (AsksSpan pid.0 at len ∷ [])) }
         ensures answer { IfOk result (λ good. good ≡ permits ((held self.old).space pid.0) need at len) }
+        ensures within { IfOk result (λ good. good ≡ true → 0 < len → at + len ≤ USER_END) }
         ensures stops { stops self.old self.new (AsksSpan pid.0 at len ∷ []) };
 
     /// The areas of a process. All of them are asked for.
@@ -43,10 +45,11 @@ pub trait Machine {
         ensures answer { IfOk result (λ areas. areas ≡ ((held self.old).space pid.0).areas) }
         ensures stops { stops self.old self.new (AsksSpace pid.0 ∷ []) };
 
-    /// Copies bytes from a space; none where one of them may not be read.
+    /// Copies bytes from a space; none where one of them may not be read. No byte outside user space may be.
     fn copy_in(&mut self, alloc: Global, pid: Pid, at: u64, len: u64) -> Result<Option<Bytes>, Halt>
         ensures does { OnOk result (does self.old self.new (copied_in ((held self.old).space pid.0) pid.0 at len)) }
         ensures answer { IfOk result (λ bytes. bytes ≡ copied ((held self.old).space pid.0) at len) }
+        ensures within { IfOk result (λ bytes. IfSome bytes (λ b. at + len ≤ max at USER_END)) }
         ensures stops { stops self.old self.new (copied_in ((held self.old).space pid.0) pid.0 at len) };
 
     /// Copies bytes to a space.
@@ -126,7 +129,7 @@ pub trait Machine {
     /// `len` bytes of a file, starting at an offset.
     fn read(&mut self, alloc: Global, file: FileNo, off: u64, len: u64) -> Result<Bytes, Halt>
         requires there { is_file (held self.old).files file.0 ≡ true }
-        requires within { off + len ≤ length (file_bytes (held self.old).files file.0) }
+        requires within { 0 < len → off + len ≤ length (file_bytes (held self.old).files file.0) }
         ensures does { OnOk result (does self.old self.new (ReadsFile file.0 off len ∷ [])) }
         ensures answer { IfOk result (λ bytes. bytes ≡ piece (file_bytes (held self.old).files file.0) off len) }
         ensures stops { stops self.old self.new (ReadsFile file.0 off len ∷ []) };

@@ -1,8 +1,9 @@
 -- Questions and reads change nothing.
 use Rattle.std.proofs.Common.{ℕ, zero, suc, ◌+◌, ◌-◌, Bool, true, false, cond, eqb, refl, List, [], ◌∷◌, length, Some, None}
 use Rattle.lego_base.specs.Space.{Space, permits, bytes_at, number_of}
+use Rattle.kernel_objects.specs.declared.piece.Piece.{Piece}
 use Rattle.linux_model.specs.Limits.{E2BIG}
-use Rattle.linux_model.specs.Buffers.{Piece, asks_pieces, copies_in, to_read}
+use Rattle.linux_model.specs.Buffers.{asks_pieces, copies_in, to_read}
 use Rattle.linux_model.specs.Paths.{Text, TextEnd, AtZero, Denied, Long, text_on, text_at}
 use Rattle.linux_model.specs.ProcessCalls.{Strings, no_strings, string_on, with_string, address_on, strings_at, list_at}
 use Rattle.linux_model.specs.Laws.{Still, LookingIsStill}

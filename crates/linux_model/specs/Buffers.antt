@@ -3,6 +3,7 @@
 use Rattle.std.specs.Prelude.{ℕ, zero, suc, ◌+◌, ◌-◌, ◌&&◌, Bool, true, not, if◌then◌else◌, min, List, [], ◌∷◌, ◌++◌, take, drop, sum_by}
 use Rattle.lego_base.specs.declared.sizes.TheConstants.{LONGEST_FILE}
 use Rattle.lego_base.specs.Space.{Space, permits, bytes_at, number_of}
+use Rattle.kernel_objects.specs.declared.piece.Piece.{Piece}
 use Rattle.linux_model.specs.Limits.{EFAULT}
 use Rattle.linux_model.specs.State.{Kernel, Process}
 use Rattle.linux_model.specs.Effects.{Effect, Reads, Writes, AsksSpan, CopyIn, CopyOut}
@@ -15,11 +16,7 @@ to_read = 1
 abbrev pub to_write : ℕ
 to_write = 2
 
--- bytes of a space, starting at an address
-pub record Piece : Type 0 where
-  pub at : ℕ
-  pub size : ℕ
-
+-- a buffer of one piece
 abbrev pub one_piece : ℕ → ℕ → List Piece
 one_piece address n = record { at = address; size = n } ∷ []
 

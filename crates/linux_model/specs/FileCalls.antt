@@ -10,12 +10,13 @@ use Rattle.kernel_objects.specs.declared.descriptor.Object.TheVariants.{Input, O
 use Rattle.kernel_objects.specs.declared.descriptor.Stream.{Stream}
 use Rattle.kernel_objects.specs.declared.process.Waiting.{Waiting}
 use Rattle.kernel_objects.specs.Slots.{lowest_free}
+use Rattle.kernel_objects.specs.declared.piece.Piece.{Piece}
 use Rattle.linux_model.specs.Limits.{ENOENT, EBADF, EEXIST, EISDIR, EINVAL, ENFILE, EMFILE, EFBIG, ENOSPC, ESPIPE, SIGPIPE, O_CREAT, O_EXCL, O_TRUNC, O_APPEND, O_CLOEXEC, OPEN_FLAGS, FILES, PIPE_BYTES, PIPE_BUF, VECTOR_PIECES, has, mode_of, is_negative}
 use Rattle.linux_model.specs.State.{Kernel, Process}
 use Rattle.linux_model.specs.Processes.{has_reader, has_writer}
 use Rattle.linux_model.specs.Effects.{Effect, Reads, MakesFile, Unlinks, AsksSize, ReadsFile, WritesFile, CutsFile, Opens, Seeks, PutsPipe, TakesPipe, Takes, Puts, CopyIn, pipe_bytes}
 use Rattle.linux_model.specs.Called.{Called, Gives, Waits, Death, says, following, first, given}
-use Rattle.linux_model.specs.Buffers.{Piece, one_piece, counted, total, part, where_good, bytes_in, copies_in, copies_out, pieces_of, to_read, to_write}
+use Rattle.linux_model.specs.Buffers.{one_piece, counted, total, part, where_good, bytes_in, copies_in, copies_out, pieces_of, to_read, to_write}
 use Rattle.linux_model.specs.Paths.{Found, Root, Named, at_path}
 use Rattle.linux_model.specs.Descriptors.{Open, opened, that, is_readable, is_writable, file_of, descriptions_left, freeing}
 

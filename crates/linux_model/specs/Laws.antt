@@ -3,9 +3,10 @@ use Rattle.std.specs.Prelude.{◌≡◌, ℕ, ◌+◌, true, false, List, [], �
 use Rattle.lego_base.specs.declared.report.FileOut.{FileOut}
 use Rattle.lego_base.specs.Space.{Space, no_space, with_space}
 use Rattle.elf_image.specs.Image.{Program}
+use Rattle.kernel_objects.specs.declared.piece.Piece.{Piece}
 use Rattle.linux_model.specs.State.{Kernel, Written, joined, unbooted}
 use Rattle.linux_model.specs.Effects.{Effect, applies}
-use Rattle.linux_model.specs.Buffers.{Piece, asks_pieces, copies_in}
+use Rattle.linux_model.specs.Buffers.{asks_pieces, copies_in}
 use Rattle.linux_model.specs.Paths.{text_at}
 use Rattle.linux_model.specs.ProcessCalls.{list_at}
 use Rattle.linux_model.specs.Loading.{loads_program, start_space}

@@ -1,6 +1,6 @@
 //! The calls on spaces by number.
 
-ghost use Rattle.std.specs.Prelude.{◌≡◌, ◌≤◌, None, true, is_some, IfOk};
+ghost use Rattle.std.specs.Prelude.{◌≡◌, ◌≤◌, None, true, is_some, IfOk, OnErr};
 ghost use Rattle.lego_base.specs.declared.sizes.TheConstants.{USER_END};
 ghost use Rattle.rv64_step.specs.Meaning.{reg};
 ghost use Rattle.sys_space.specs.Calls.{is_space_call, NumberedAnswers, NumberedStops};
@@ -44,6 +44,7 @@ pub fn space_call<M: Machine>(
 ) -> Result<Option<u64>, Halt>
     requires within { brk.old.now ≤ USER_END }
     ensures mine { IfOk result (λ answer. is_some answer ≡ is_space_call (reg cpu.now 17)) }
+    ensures halts { OnErr result (is_space_call (reg cpu.now 17) ≡ true) }
     ensures answers { NumberedAnswers M.held M.does machine.old machine.new pid.0 cpu.now brk.old brk.new result }
     ensures stops { is_space_call (reg cpu.now 17) ≡ true → NumberedStops M.held M.stops machine.old machine.new pid.0 cpu.now brk.old }
     ensures others { IfOk result (λ answer. answer ≡ None → (machine.new ≡ machine.old) × (brk.new ≡ brk.old)) }

@@ -15,12 +15,13 @@ use Rattle.kernel_objects.specs.declared.descriptor.Object.{Object}
 use Rattle.kernel_objects.specs.declared.descriptor.Object.TheVariants.{Input, Output, Regular, PipeRead, PipeWrite}
 use Rattle.kernel_objects.specs.Slots.{slot}
 use Rattle.space_rules.specs.declared.TheConstants.{MAPPINGS_START, MOST_STRINGS, MOST_STRING_BYTES}
+use Rattle.kernel_objects.specs.declared.piece.Piece.{Piece}
 use Rattle.linux_model.specs.Limits.{EAGAIN, EBADF, ECHILD, EFBIG, EINVAL, ENOENT, ENOEXEC, ENOMEM, ENOTDIR, ESPIPE, NAME_BYTES, PROCESSES, SIGCHLD, MAPPING_BYTES, ANY, is_negative, AT_FDCWD, PATH_BYTES, VECTOR_PIECES, has, O_APPEND, EFAULT, PIPE_BUF}
 use Rattle.linux_model.specs.State.{Kernel, Process}
 use Rattle.linux_model.specs.Processes.{Dead, dead_child, has_child, has_file, has_reader, has_writer}
 use Rattle.linux_model.specs.Effects.{Effect, Reads, Writes, LooksUp, Unlinks, AsksSize, AsksSpace, ReadsFile, WritesFile, CutsFile, Seeks, PutsPipe, TakesPipe, Takes, Puts, Copies, Drops, Forks, Maps, Protects, Unmaps, Breaks, CopyIn, CopyOut, apply, applies, pipe_bytes}
 use Rattle.linux_model.specs.Called.{Called, Gives, Becomes, Waits, Death, says, following, first, given}
-use Rattle.linux_model.specs.Buffers.{Piece, one_piece, counted, total, part, where_good, asks_pieces, are_good, bytes_in, copies_in, copies_out, pieces_of, to_read, to_write}
+use Rattle.linux_model.specs.Buffers.{one_piece, counted, total, part, where_good, asks_pieces, are_good, bytes_in, copies_in, copies_out, pieces_of, to_read, to_write}
 use Rattle.linux_model.specs.Paths.{Found, Root, Named, is_relative, Text, TextEnd, AtZero, Denied, Long, text_at, of_text, at_path, walked, parts_of, without_root_parts}
 use Rattle.linux_model.specs.Descriptors.{Open, opened, that, is_readable, is_writable, file_of, closings}
 use Rattle.linux_model.specs.FileCalls.{unlinked, unlinkat_row, ftruncate_row, sum_of, seeks_from, lseek_row, moves_out, reads_file, reads_pipe, reads_object, reads_pieces, read_row, with_vector, readv_row, pread64_row, writes_at, writes_file, room_of, puts_pieces, moved_before, writes_pipe, writes_object, writes_pieces, write_row, writev_row, pwrite64_row}

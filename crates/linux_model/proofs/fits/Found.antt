@@ -130,7 +130,7 @@ let_go_procs : (desc : Option ℕ) (k : Kernel) → (let_go desc k).procs ≡ k.
 let_go_procs None k = refl
 let_go_procs (Some desc) k = either_procs (is_referred desc k.procs) k _ k.procs refl (description_procs (slot k.descs desc) (record k { descs = freed k.descs desc }))
 
-closed_procs : (pid fd : ℕ) (k : Kernel) → (apply (Closes pid fd) k).procs ≡ at_pid pid (at_fd fd None) k.procs
+pub closed_procs : (pid fd : ℕ) (k : Kernel) → (apply (Closes pid fd) k).procs ≡ at_pid pid (at_fd fd None) k.procs
 closed_procs pid fd k = let_go_procs (desc_at (slot (fds_of (process k.procs pid)) fd)) (record k { procs = at_pid pid (at_fd fd None) k.procs })
 
 freed_procs : (b c : Bool) (file : ℕ) (k : Kernel) → has_name k.names file ≡ c → (applies (cond b [] (FreesFile file ∷ [])) k).procs ≡ k.procs

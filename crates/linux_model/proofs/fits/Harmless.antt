@@ -11,12 +11,13 @@ use Rattle.rv64_step.specs.declared.cpu.StepEnd.TheVariants.{Next, Call, Dead}
 use Rattle.rv64_step.specs.Meaning.{Asks, Ends, Loads, Stores, asks}
 use Rattle.kernel_model.specs.Boot.{filled_pages, pages_met}
 use Rattle.space_rules.specs.Start.{sp_of, stack_bytes}
+use Rattle.kernel_objects.specs.declared.piece.Piece.{Piece}
 use Rattle.linux_model.specs.Limits.{E2BIG}
 use Rattle.linux_model.specs.State.{Kernel, Process}
 use Rattle.linux_model.specs.Processes.{at_pid, is_live}
 use Rattle.linux_model.specs.Effects.{Effect, Reads, Writes, Refused, FreesFile, Opens, Shares, Goes, Starts, Forks, Dies, apply, applies}
 use Rattle.linux_model.specs.Instructions.{Ran, asked, obeyed, one, many, goes_on}
-use Rattle.linux_model.specs.Buffers.{Piece, asks_pieces, copies_in, copies_out, to_read}
+use Rattle.linux_model.specs.Buffers.{asks_pieces, copies_in, copies_out, to_read}
 use Rattle.linux_model.specs.Paths.{Text, TextEnd, AtZero, Denied, Long, text_on, text_at}
 use Rattle.linux_model.specs.ProcessCalls.{Strings, no_strings, string_on, with_string, address_on, strings_at, list_at}
 use Rattle.linux_model.specs.Loading.{page_fill, load_fills, cut, stack_fills, loads_program}

@@ -1,0 +1,4 @@
+pub mod Own
+pub mod Looks
+pub mod Rows
+pub mod Runs

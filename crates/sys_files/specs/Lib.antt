@@ -1,0 +1,4 @@
+pub mod Freeing
+pub mod Names
+pub mod Numbers
+pub mod Tried

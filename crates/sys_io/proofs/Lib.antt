@@ -1,0 +1,4 @@
+pub mod Entries
+pub mod Filled
+pub mod Moving
+pub mod Sending

@@ -1,0 +1,5 @@
+pub mod Moving
+pub mod Numbers
+pub mod Rows
+pub mod Tried
+pub mod Vectors
