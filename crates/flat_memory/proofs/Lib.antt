@@ -4,4 +4,5 @@ pub mod Accesses
 pub mod Stores
 pub mod FastPath
 pub mod Spaces
+pub mod Clearing
 mod Rows

@@ -71,6 +71,26 @@ set-at spaces pid space h q = elim (cases_eq q pid) [
 pub at-set : (spaces : List (Option FlatSpace)) (pid : ℕ) (space : FlatSpace) → pid < length spaces → space_at (set spaces pid (Some space)) ≡ with_space (space_at spaces) pid (space_of space)
 at-set spaces pid space h = λ i q. set-at spaces pid space h q i
 
+-- one of them is dropped
+dropped-at : (spaces : List (Option FlatSpace)) (pid : ℕ) → pid < length spaces → (q : ℕ) → space_at (set spaces pid None) q ≡ cond (eqb q pid) no_space (space_at spaces q)
+dropped-at spaces pid h q = elim (cases_eq q pid) [
+  | inl e ↦ ap (space_at (set spaces pid None)) e ∙ set-here spaces pid None h ∙ sym (cond-true (eqb q pid) no_space (space_at spaces q) (eq-eqb q pid e))
+  | inr ne ↦ set-there spaces pid None q ne ∙ sym (cond-false (eqb q pid) no_space (space_at spaces q) (ne_eqb q pid ne))
+]
+
+pub at-drop : (spaces : List (Option FlatSpace)) (pid : ℕ) → pid < length spaces → space_at (set spaces pid None) ≡ with_space (space_at spaces) pid no_space
+at-drop spaces pid h = λ i q. dropped-at spaces pid h q i
+
+-- one that isn't there is
+past-at : (spaces : List (Option FlatSpace)) (pid : ℕ) → length spaces ≤ pid → (q : ℕ) → space_at spaces q ≡ cond (eqb q pid) no_space (space_at spaces q)
+past-at spaces pid h q = elim (cases_eq q pid) [
+  | inl e ↦ ap (space_at spaces) e ∙ at-past spaces pid h ∙ sym (cond-true (eqb q pid) no_space (space_at spaces q) (eq-eqb q pid e))
+  | inr ne ↦ sym (cond-false (eqb q pid) no_space (space_at spaces q) (ne_eqb q pid ne))
+]
+
+pub none-drop : (spaces : List (Option FlatSpace)) (pid : ℕ) → length spaces ≤ pid → space_at spaces ≡ with_space (space_at spaces) pid no_space
+none-drop spaces pid h = λ i q. past-at spaces pid h q i
+
 -- nothing is permitted where nothing is mapped
 pub none-permitted : (need address n : ℕ) → 0 < n → permits no_space need address n ≡ false
 none-permitted need address zero h = absurd (omega arith)

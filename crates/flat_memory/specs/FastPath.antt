@@ -36,6 +36,10 @@ slot_of page perms start = record {
   shift = (start + (2 ^ 64 - page * 4096)) % 2 ^ 64;
 }
 
+-- the slot of no page
+abbrev pub no_slot : Slot
+no_slot = record { load = 2 ^ 64 - 1; store = 2 ^ 64 - 1; fetch = 2 ^ 64 - 1; shift = 0 }
+
 -- what has to be so for a use besides its permission: a page that is stored to has bytes of its own
 abbrev pub has_bytes : Use → ℕ → Bool
 has_bytes Load start = true

@@ -1,6 +1,6 @@
 -- The bytes of a space: a list of bytes in pieces of 4096. A page that was written has one of its own, and the list says
 -- where that begins. The first piece has zeros alone, and stands for every page that wasn't written.
-use Rattle.std.specs.Prelude.{◌≡◌, ℕ, zero, suc, ◌+◌, ◌/◌, ◌%◌, ◌<◌, ◌≤◌, List, [], ◌∷◌, length, slice_index, nat_eq}
+use Rattle.std.specs.Prelude.{◌≡◌, ℕ, zero, suc, ◌+◌, ◌*◌, ◌/◌, ◌%◌, ◌<◌, ◌≤◌, ◌&&◌, if◌then◌else◌, List, [], ◌∷◌, length, slice_index, nat_eq, nat_le, nat_lt}
 use Rattle.std.specs.HashMap.{HashMap, get}
 use Rattle.std.specs.Map.{count_at}
 
@@ -24,6 +24,10 @@ pub record IsPieces (start : ℕ → ℕ) (bytes : List ℕ) : Type 0 where
   -- two pages share a piece only where it is that of zeros
   pub apart : (page other : ℕ) → 0 < start page → start page ≡ start other → page ≡ other
   pub zeros : (k : ℕ) → k < 4096 → slice_index bytes k ≡ 0
+
+-- the bytes with those of n pages, starting at one, at 0
+abbrev pub cleared : ℕ → ℕ → (ℕ → ℕ) → ℕ → ℕ
+cleared first pages byte address = if nat_le (first * 4096) address && nat_lt address ((first + pages) * 4096) then 0 else byte address
 
 -- n bytes, starting at a place
 abbrev pub window : List ℕ → ℕ → ℕ → List ℕ

@@ -2,13 +2,18 @@
 use Rattle.std.specs.Prelude.{◌≡◌, ℕ, zero, suc, List, [], ◌∷◌, Option, Some, None, true, false}
 use Rattle.lego_base.specs.Space.{Space, no_space, permits, bytes_at, number_of}
 use Rattle.rv64_step.specs.Access.{to_fetch}
-use Rattle.flat_memory.specs.Pieces.{start_in, byte_in}
+use Rattle.area_list.specs.Runs.{cut_runs}
+use Rattle.flat_memory.specs.Pieces.{start_in, byte_in, cleared}
 use Rattle.flat_memory.specs.declared.space.FlatSpace.{FlatSpace}
 use Rattle.flat_memory.specs.declared.memory.FlatMemory.{FlatMemory}
 
 -- what a space holds
 abbrev pub space_of : FlatSpace → Space
 space_of space = record { areas = space.areas; byte = byte_in (start_in space.starts) space.bytes.items }
+
+-- a space in which n pages, starting at one, aren't mapped and read 0
+abbrev pub unmapped : ℕ → ℕ → Space → Space
+unmapped first pages space = record { areas = cut_runs first pages space.areas; byte = cleared first pages space.byte }
 
 -- a space after what changes only where its pages are found
 pub record Keeps (old new : FlatSpace) : Type 0 where

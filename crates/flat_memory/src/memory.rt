@@ -1,12 +1,15 @@
 //! The address spaces of guest processes, by pid.
-ghost use Rattle.std.specs.Prelude.{◌≡◌, MatchOption, ◌+◌, ◌≤◌, ◌^◌, ℕ, length, vec_len, OnOk, IfOk};
+ghost use Rattle.std.specs.Prelude.{◌≡◌, MatchOption, ◌+◌, ◌%◌, ◌≤◌, ◌<◌, ◌^◌, ℕ, length, vec_len, OnOk, IfOk, IsTrue};
+ghost use Rattle.area_list.specs.Runs.{cut_runs};
+ghost use Rattle.area_list.specs.declared.TheConstants.{MOST_RUNS};
 ghost use Rattle.lego_base.specs.Space.{no_space};
+ghost use Rattle.lego_base.specs.declared.sizes.TheConstants.{PAGES_END};
 ghost use Rattle.flat_memory.specs.Access.{Copied, CopiedTo};
 
 use crate::space::FlatSpace;
 use crate::turn::TurnSpace;
 use area_list::Areas;
-use lego_base::{Bytes, MemStop, NoMemory, Pid};
+use lego_base::{Bytes, MemStop, NoMemory, Pid, Vpn};
 use std::alloc::Global;
 
 /// The address spaces of guest processes, by pid. Nothing is mapped for a pid that wasn't named in `create`.
@@ -17,8 +20,8 @@ pub struct FlatMemory {
 }
 
 impl FlatMemory {
-    ghost use Rattle.lego_base.specs.Space.{with_bytes, with_space};
-    ghost use Rattle.flat_memory.specs.Spaces.{space_of, spaces_of};
+    ghost use Rattle.lego_base.specs.Space.{permits, with_bytes, with_space};
+    ghost use Rattle.flat_memory.specs.Spaces.{space_of, spaces_of, unmapped};
 
     /// A memory of no process.
     pub fn new(alloc: Global) -> Result<FlatMemory, NoMemory>
@@ -48,9 +51,88 @@ impl FlatMemory {
         self.set(pid, space)
     }
 
+    /// Writes bytes of one page, whatever it permits.
+    pub fn fill_page(&mut self, pid: Pid, addr: u64, bytes: &[u8]) -> Result<(), NoMemory>
+        requires { addr % 4096 + length bytes.now ≤ 4096 }
+        ensures { OnOk result (spaces_of self.new ≡ with_space (spaces_of self.old) pid.0 (with_bytes (spaces_of self.old pid.0) addr bytes.now)) }
+    {
+        let mut space = self.remove(pid)?;
+        space.fill_page(addr, bytes)?;
+        self.set(pid, space)
+    }
+
+    /// Whether the page of each of `len` bytes has a permission: 1 to read, 2 to write, 4 to execute. Where it has, they end
+    /// at 2^38 at most.
+    pub fn permits(&self, pid: Pid, need: u8, addr: u64, len: u64) -> bool
+        ensures permits { result ≡ permits (spaces_of self.now pid.0) need addr len }
+        ensures ends { IsTrue result → 0 < len → addr + len ≤ 2 ^ 38 }
+    {
+        match self.space(pid) {
+            Some(space) => space.permits(need, addr, len),
+            None => len == 0,
+        }
+    }
+
+    /// A copy of the areas of a process.
+    pub fn areas(&self, alloc: Global, pid: Pid) -> Result<Areas, NoMemory>
+        ensures { IfOk result (λ areas. areas ≡ (spaces_of self.now pid.0).areas) }
+    {
+        match self.space(pid) {
+            Some(space) => space.areas(alloc),
+            None => Areas::new(alloc),
+        }
+    }
+
+    /// The areas of a process become these. Its bytes stay.
+    pub fn set_areas(&mut self, pid: Pid, areas: Areas) -> Result<(), NoMemory>
+        ensures ok { OnOk result (spaces_of self.new ≡ with_space (spaces_of self.old) pid.0 (record (spaces_of self.old pid.0) { areas = areas })) }
+    {
+        let mut space = self.remove(pid)?;
+        space.set_areas(areas);
+        self.set(pid, space)
+    }
+
+    /// `pages` pages, starting at `first`, aren't mapped any more, and their bytes are 0.
+    pub fn unmap(&mut self, pid: Pid, first: Vpn, pages: u64) -> Result<(), NoMemory>
+        requires within { first.0 + pages ≤ PAGES_END }
+        requires few { length (cut_runs first.0 pages (spaces_of self.old pid.0).areas) ≤ MOST_RUNS }
+        ensures { OnOk result (spaces_of self.new ≡ with_space (spaces_of self.old) pid.0 (unmapped first.0 pages (spaces_of self.old pid.0))) }
+    {
+        let mut space = self.remove(pid)?;
+        space.unmap(first, pages);
+        self.set(pid, space)
+    }
+
+    /// Gives a process a copy of the space of another one.
+    pub fn copy_space(&mut self, parent: Pid, child: Pid) -> Result<(), NoMemory>
+        ensures { OnOk result (spaces_of self.new ≡ with_space (spaces_of self.old) child.0 (spaces_of self.old parent.0)) }
+    {
+        match self.space(parent) {
+            Some(space) => {
+                let copy = space.duplicate(self.alloc)?;
+                self.set(child, copy)
+            }
+            None => {
+                self.drop_space(child);
+                Ok(())
+            }
+        }
+    }
+
+    /// Drops the space of a process, if it has one.
+    pub fn drop_space(&mut self, pid: Pid)
+        ensures { spaces_of self.new ≡ with_space (spaces_of self.old) pid.0 no_space }
+    {
+        let index = pid.0 as usize;
+        if index < self.spaces.len() {
+            self.spaces[index] = None;
+        }
+    }
+
     /// A copy of the `len` bytes at an address, where each of them may be read.
     pub fn copy_in(&self, alloc: Global, pid: Pid, addr: u64, len: u64) -> Result<Bytes, MemStop>
-        ensures { Copied (spaces_of self.now pid.0) addr len result }
+        ensures copied { Copied (spaces_of self.now pid.0) addr len result }
+        ensures ends { IfOk result (λ bytes. 0 < len → addr + len ≤ 2 ^ 38) }
     {
         let Some(space) = self.space(pid) else {
             return no_bytes(alloc, len);
@@ -140,7 +222,8 @@ impl FlatMemory {
 
 // A copy of `len` bytes where nothing is mapped.
 fn no_bytes(alloc: Global, len: u64) -> Result<Bytes, MemStop>
-    ensures { (addr : _) → Copied no_space addr len result }
+    ensures copied { (addr : _) → Copied no_space addr len result }
+    ensures none { IfOk result (λ bytes. len ≡ 0) }
 {
     if len > 0 {
         return Err(MemStop::Segv);

@@ -29,6 +29,14 @@ pub struct Slot {
 }
 
 impl Use {
+    /// The permission that it needs, as a number.
+    #[inline(always)]
+    pub fn need(self) -> u8
+        ensures { result ≡ needed self }
+    {
+        self.needs().bits()
+    }
+
     // The permission that it needs.
     #[inline(always)]
     fn needs(self) -> Perms
@@ -43,7 +51,7 @@ impl Use {
 }
 
 /// Whether a page with these permissions, if it is mapped, permits a use.
-pub fn permits(perms: Option<Perms>, access: Use) -> bool
+fn permits(perms: Option<Perms>, access: Use) -> bool
     ensures { result ≡ allows perms (needed access) }
 {
     match perms {

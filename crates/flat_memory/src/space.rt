@@ -1,13 +1,18 @@
 //! The address space of one process.
-ghost use Rattle.std.specs.Prelude.{◌≡◌, ℕ, ◌+◌, ◌/◌, ◌%◌, ◌^◌, ◌<◌, ◌≤◌, length, slice_index_or, OnOk, OnErr, IfOk, IfSome, IsTrue, MatchBool, true};
+ghost use Rattle.std.specs.Prelude.{◌≡◌, ℕ, ◌==◌, ◌+◌, ◌/◌, ◌%◌, ◌^◌, ◌<◌, ◌≤◌, length, map, slice_index_or, OnOk, OnErr, IfOk, IfSome, IsTrue, MatchBool, true};
+ghost use Rattle.area_list.specs.Runs.{cut_runs};
+ghost use Rattle.area_list.specs.declared.TheConstants.{MOST_RUNS};
+ghost use Rattle.lego_base.specs.Pieces.{zeros};
 ghost use Rattle.lego_base.specs.Space.{perms_of, allows, number_of};
-ghost use Rattle.flat_memory.specs.Pieces.{start_in, byte_in, window, IsPieces};
-ghost use Rattle.flat_memory.specs.FastPath.{needed, IsFast};
+ghost use Rattle.lego_base.specs.declared.sizes.TheConstants.{PAGES_END};
+ghost use Rattle.flat_memory.specs.Pieces.{start_in, byte_in, cleared, window, IsPieces, Written};
+ghost use Rattle.flat_memory.specs.FastPath.{needed, no_slot, IsFast};
 
-use crate::slot::{Slot, Use, permits};
+use crate::slot::{Slot, Use};
 use crate::word;
 use area_list::Areas;
-use lego_base::{Bytes, MemStop, NoMemory, PAGE_BYTES, Vpn};
+use bitflags::Flags;
+use lego_base::{Bytes, MemStop, NoMemory, PAGE_BYTES, Perms, Vpn};
 use rv64_step::Width;
 use std::alloc::Global;
 use std::collections::HashMap;
@@ -42,7 +47,7 @@ impl FlatSpace {
     ghost use Rattle.rv64_step.specs.Access.{bytes_in, to_load, to_store};
     ghost use Rattle.flat_memory.specs.Access.{Copied, CopiedOut, IsRead, IsWrite};
     ghost use Rattle.flat_memory.specs.FastPath.{IsSlot, IsPlace};
-    ghost use Rattle.flat_memory.specs.Spaces.{space_of, Keeps};
+    ghost use Rattle.flat_memory.specs.Spaces.{space_of, unmapped, Keeps};
 
     /// A space with these areas, in which every byte is 0.
     pub fn new(alloc: Global, areas: Areas) -> Result<FlatSpace, NoMemory>
@@ -56,6 +61,54 @@ impl FlatSpace {
             bytes,
             slots,
         })
+    }
+
+    /// A copy of the space: it takes as much memory as the pages of this one that were written.
+    pub fn duplicate(&self, alloc: Global) -> Result<FlatSpace, NoMemory>
+        ensures { IfOk result (λ copy. space_of copy ≡ space_of self.now) }
+    {
+        let mut areas = Areas::new(alloc)?;
+        areas.copy_from(&self.areas);
+        let starts = self.starts.clone()?;
+        let bytes = Vec::from_slice(alloc, &self.bytes)?;
+        let slots = Vec::from_slice(alloc, &self.slots)?;
+        Ok(FlatSpace {
+            areas,
+            starts,
+            bytes,
+            slots,
+        })
+    }
+
+    /// A copy of the areas.
+    pub fn areas(&self, alloc: Global) -> Result<Areas, NoMemory>
+        ensures { IfOk result (λ areas. areas ≡ (space_of self.now).areas) }
+    {
+        let mut areas = Areas::new(alloc)?;
+        areas.copy_from(&self.areas);
+        Ok(areas)
+    }
+
+    /// The areas become these. The bytes stay, also of pages that aren't mapped.
+    pub fn set_areas(&mut self, areas: Areas)
+        ensures { space_of self.new ≡ record (space_of self.old) { areas = areas } }
+    {
+        forget(&mut self.slots);
+        self.areas = areas;
+    }
+
+    /// `pages` pages, starting at `first`, aren't mapped any more, and their bytes are 0.
+    pub fn unmap(&mut self, first: Vpn, pages: u64)
+        requires within { first.0 + pages ≤ PAGES_END }
+        requires few { length (cut_runs first.0 pages (space_of self.old).areas) ≤ MOST_RUNS }
+        ensures { space_of self.new ≡ unmapped first.0 pages (space_of self.old) }
+    {
+        forget(&mut self.slots);
+        match self.areas.cut(first, pages) {
+            Ok(()) => {}
+            Err(_) => unreachable!(),
+        }
+        clear_pages(&self.starts, &mut self.bytes, first.0, pages);
     }
 
     /// A copy of the slot in which an address's page may be.
@@ -115,7 +168,7 @@ impl FlatSpace {
         if addr % PAGE_BYTES + width.bytes() > PAGE_BYTES {
             return self.read_across(access, addr, width);
         }
-        if !self.page_permits(access, addr) {
+        if !self.page_permits(access.need(), addr) {
             return None;
         }
         let start = start_of(&self.starts, addr / PAGE_BYTES);
@@ -133,7 +186,7 @@ impl FlatSpace {
     fn read_across(&self, access: Use, addr: u64, width: Width) -> Option<u64>
         ensures { IsRead (space_of self.now) (needed access) addr (bytes_in width) result }
     {
-        if !self.permits(access, addr, width.bytes()) {
+        if !self.permits(access.need(), addr, width.bytes()) {
             return None;
         }
         let mut value = 0;
@@ -150,24 +203,25 @@ impl FlatSpace {
         self.bytes[start_of(&self.starts, addr / PAGE_BYTES) + (addr % PAGE_BYTES) as usize]
     }
 
-    // Whether the page of an address permits a use.
-    fn page_permits(&self, access: Use, addr: u64) -> bool
-        ensures permits { result ≡ allows (perms_of self.now.areas (addr / 4096)) (needed access) }
+    // Whether the page of an address has a permission.
+    fn page_permits(&self, need: u8, addr: u64) -> bool
+        ensures permits { result ≡ allows (perms_of self.now.areas (addr / 4096)) need }
         ensures ends { IsTrue result → addr < 2 ^ 38 }
     {
         let _runs = self.areas.runs(); // none of them passes the end of the addresses, 2^38
-        permits(self.areas.perms_at(Vpn(addr / PAGE_BYTES)), access)
+        allows(self.areas.perms_at(Vpn(addr / PAGE_BYTES)), need)
     }
 
-    // Whether each of `len` bytes permits a use. Where they do, they end at 2^38 at most.
-    fn permits(&self, access: Use, addr: u64, len: u64) -> bool
-        ensures permits { result ≡ permits (space_of self.now) (needed access) addr len }
+    /// Whether the page of each of `len` bytes has a permission: 1 to read, 2 to write, 4 to execute. Where it has, they end
+    /// at 2^38 at most.
+    pub fn permits(&self, need: u8, addr: u64, len: u64) -> bool
+        ensures permits { result ≡ permits (space_of self.now) need addr len }
         ensures ends { IsTrue result → 0 < len → addr + len ≤ 2 ^ 38 }
     {
         let mut at = addr;
         let mut left = len;
         while left > 0 {
-            if !self.page_permits(access, at) {
+            if !self.page_permits(need, at) {
                 return false;
             }
             let room = PAGE_BYTES - at % PAGE_BYTES;
@@ -201,7 +255,7 @@ impl FlatSpace {
     pub fn store_slowly(&mut self, addr: u64, width: Width, value: u64) -> Result<bool, NoMemory>
         ensures { IfOk result (IsWrite (space_of self.old) (space_of self.new) addr (bytes_in width) value) }
     {
-        if !self.permits(Use::Store, addr, width.bytes()) {
+        if !self.permits(Use::Store.need(), addr, width.bytes()) {
             return Ok(false);
         }
         let number = value.to_le_bytes();
@@ -225,8 +279,8 @@ impl FlatSpace {
         Ok(())
     }
 
-    // Writes bytes of one page.
-    fn fill_page(&mut self, addr: u64, bytes: &[u8]) -> Result<(), NoMemory>
+    /// Writes bytes of one page, whatever it permits.
+    pub fn fill_page(&mut self, addr: u64, bytes: &[u8]) -> Result<(), NoMemory>
         requires { addr % 4096 + length bytes.now ≤ 4096 }
         ensures { OnOk result (space_of self.new ≡ with_bytes (space_of self.old) addr bytes.now) }
     {
@@ -251,9 +305,10 @@ impl FlatSpace {
 
     /// A copy of `len` bytes, where each of them may be read.
     pub fn copy(&self, alloc: Global, addr: u64, len: u64) -> Result<Bytes, MemStop>
-        ensures { Copied (space_of self.now) addr len result }
+        ensures copied { Copied (space_of self.now) addr len result }
+        ensures ends { IfOk result (λ bytes. 0 < len → addr + len ≤ 2 ^ 38) }
     {
-        if !self.permits(Use::Load, addr, len) {
+        if !self.permits(Use::Load.need(), addr, len) {
             return Err(MemStop::Segv);
         }
         Ok(self.pages(alloc, addr, len as usize)?)
@@ -264,7 +319,7 @@ impl FlatSpace {
         requires { 0 < length bytes.now }
         ensures { CopiedOut (space_of self.old) (space_of self.new) addr bytes.now result }
     {
-        if !self.permits(Use::Store, addr, bytes.len() as u64) {
+        if !self.permits(Use::Store.need(), addr, bytes.len() as u64) {
             return Err(MemStop::Segv);
         }
         Ok(self.fill(addr, bytes)?)
@@ -286,6 +341,71 @@ impl FlatSpace {
         }
         Bytes::from_vec(copy)
     }
+}
+
+// Whether a page with these permissions, if it is mapped, has one of them.
+fn allows(perms: Option<Perms>, need: u8) -> bool
+    ensures { result ≡ allows perms need }
+{
+    match perms {
+        Some(perms) => has(perms.bits(), need),
+        None => false,
+    }
+}
+
+// Whether permissions have one of them.
+fn has(perms: u8, need: u8) -> bool
+    ensures { result ≡ (perms / need % 2 == 1) }
+{
+    if need == 0 {
+        return false;
+    }
+    perms / need % 2 == 1
+}
+
+// Slots in which no page is.
+fn forget(slots: &mut [Slot])
+    ensures { slots.new ≡ map (λ slot. no_slot) slots.old }
+{
+    for slot in slots.iter_mut() {
+        *slot = Slot::NONE;
+    }
+}
+
+// Makes the bytes of `pages` pages, starting at `first`, 0.
+fn clear_pages(starts: &HashMap<u64, usize>, bytes: &mut [u8], first: u64, pages: u64)
+    requires pieces { IsPieces (start_in starts.now) bytes.old }
+    requires within { first + pages ≤ PAGES_END }
+    ensures length { length bytes.new ≡ length bytes.old }
+    ensures pieces { IsPieces (start_in starts.now) bytes.new }
+    ensures cleared { byte_in (start_in starts.now) bytes.new ≡ cleared first pages (byte_in (start_in starts.now) bytes.old) }
+{
+    let mut done = 0;
+    while done < pages {
+        clear_page(starts, bytes, first + done);
+        done += 1;
+    }
+}
+
+// Makes the bytes of a page 0.
+fn clear_page(starts: &HashMap<u64, usize>, bytes: &mut [u8], page: u64)
+    requires { IsPieces (start_in starts.now) bytes.old }
+    ensures length { length bytes.new ≡ length bytes.old }
+    ensures pieces { IsPieces (start_in starts.now) bytes.new }
+    ensures cleared { byte_in (start_in starts.now) bytes.new ≡ cleared page 1 (byte_in (start_in starts.now) bytes.old) }
+{
+    let start = start_of(starts, page);
+    if start > 0 {
+        clear_piece(bytes, start);
+    }
+}
+
+// Makes the bytes of a piece 0.
+fn clear_piece(bytes: &mut [u8], start: usize)
+    requires { start + 4096 ≤ length bytes.old }
+    ensures { Written bytes.old start (zeros 4096) bytes.new }
+{
+    bytes[start..start + PAGE].copy_from_slice(&[0; PAGE]);
 }
 
 // Where the bytes of a page begin.
