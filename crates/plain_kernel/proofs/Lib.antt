@@ -1,5 +1,4 @@
 pub mod Piecewise
-pub mod Stepped
 pub mod Instructed
 pub mod Calling
 pub mod Answering

@@ -8,7 +8,6 @@
 mod calls;
 mod files;
 mod input;
-mod instructions;
 mod load;
 mod machine;
 mod run;

@@ -5,10 +5,10 @@ ghost use Rattle.rv64_step.specs.Meaning.{with_reg, next_pc};
 
 use crate::calls::CallEnd;
 use crate::input::Input;
-use crate::instructions::run_some;
 use flat_memory::FlatMemory;
 use host_io::Sink;
 use lego_base::{CallStop, Exit, FileOut, Halt, NoMemory, Pid, Seq};
+use plain_steps::run_some;
 use rv64_step::{Cpu, StepEnd};
 use std::alloc::Global;
 

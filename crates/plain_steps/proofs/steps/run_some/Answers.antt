@@ -8,7 +8,7 @@ use Rattle.rv64_step.specs.Harts.{cpu_of}
 use Rattle.flat_memory.specs.Spaces.{space_of, spaces_of}
 use Rattle.kernel_model.specs.Agrees.{Agrees}
 use Rattle.kernel_model.specs.Instructions.{many}
-use Rattle.plain_kernel.proofs.instructions.run_some.Goals as goal
+use Rattle.plain_steps.proofs.steps.run_some.Goals as goal
 
 pub returns-clause-ran : goal.returns-clause-ran
 returns-clause-ran c =

@@ -7,8 +7,8 @@ use Rattle.lego_base.specs.declared.ids.Pid.{Pid}
 use Rattle.flat_memory.specs.Spaces.{space_of}
 use Rattle.kernel_model.specs.Instructions.{many}
 use Rattle.kernel_model.proofs.Running.{next_one, last_call, last_dead}
-use Rattle.plain_kernel.proofs.Stepped.{served, stepped_to, step_pid}
-use Rattle.plain_kernel.proofs.instructions.run.Goals as goal
+use Rattle.plain_steps.proofs.Stepped.{served, stepped_to, step_pid}
+use Rattle.plain_steps.proofs.steps.run.Goals as goal
 
 pub step-requires : goal.step-requires
 step-requires c = served c.args.pid.0 c.loop-n.space (ap (λ (p : Pid). p.0) c.loop-n.invariant.pid)
