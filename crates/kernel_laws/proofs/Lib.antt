@@ -2,3 +2,4 @@ pub mod Own
 pub mod Looks
 pub mod Rows
 pub mod Runs
+pub mod Placed

@@ -1,9 +1,14 @@
 //! Laws of whole runs of the plain kernel that more than one machine rests on.
 #![tactic(auto)]
 
-ghost use Rattle.kernel_laws.specs.Laws.{UnbornHaveNoSpace};
+ghost use Rattle.kernel_laws.specs.Laws.{InstructionsChangeRegistersAndSpaceAlone, UnbornHaveNoSpace};
 
 /// After every turn of every run, no process that is yet to be born has a space.
 pub fn the_unborn_have_no_space()
     ensures { UnbornHaveNoSpace }
+{}
+
+/// Instructions of a process change its registers and its space, and nothing else of the kernel.
+pub fn instructions_change_registers_and_space_alone()
+    ensures { InstructionsChangeRegistersAndSpaceAlone }
 {}
