@@ -3,3 +3,5 @@ pub mod Looks
 pub mod Rows
 pub mod Runs
 pub mod Placed
+pub mod Ready
+pub mod Within

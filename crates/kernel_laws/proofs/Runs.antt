@@ -59,7 +59,7 @@ goes_own pid Next r rest h m = own-append pid r.effects rest.effects h m
 goes_own pid AtCall r rest h m = h
 goes_own pid (DeadBy signal) r rest h m = h
 
-instructions_own : (n pid : ℕ) (cpu : Cpu) (space : Space) → AllOwn pid (many n pid cpu space).effects
+pub instructions_own : (n pid : ℕ) (cpu : Cpu) (space : Space) → AllOwn pid (many n pid cpu space).effects
 instructions_own zero pid cpu space = tt
 instructions_own (suc n) pid cpu space =
     goes_own pid (one pid cpu space).stop (one pid cpu space) (many n pid (one pid cpu space).cpu (one pid cpu space).space)
@@ -154,7 +154,7 @@ low_first : (low last pid : ℕ) (b : Bool) (q p : Process) (rest : Option Proce
 low_first low last pid true q p rest h e more is = let same : q.pid ≡ pid = eqb-true q.pid pid e in omega (arith, h, same)
 low_first low last pid false q p rest h e more is = more is
 
-pid_low : (low last pid : ℕ) (procs : List Process) (p : Process) → PidsRise low last procs → process procs pid ≡ Some p → pid ≤ last
+pub pid_low : (low last pid : ℕ) (procs : List Process) (p : Process) → PidsRise low last procs → process procs pid ≡ Some p → pid ≤ last
 pid_low low last pid [] p r is = cc is
 pid_low low last pid (q ∷ procs) p r is = low_first low last pid (eqb q.pid pid) q p (process procs pid) r.1 refl (pid_low q.pid last pid procs p r.2) is
 

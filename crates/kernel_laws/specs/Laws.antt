@@ -1,15 +1,16 @@
 -- What holds of every kernel that a run reaches, beside what linux_model says of it.
-use Rattle.std.specs.Prelude.{◌≡◌, ◌<◌, ℕ, List, Option, Some}
+use Rattle.std.specs.Prelude.{◌≡◌, ◌<◌, ℕ, suc, true, List, Option, Some, None}
 use Rattle.lego_base.specs.declared.report.FileOut.{FileOut}
 use Rattle.lego_base.specs.Space.{Space, no_space, with_space}
 use Rattle.elf_image.specs.Image.{Program}
+use Rattle.kernel_objects.specs.declared.process.Waiting.{Waiting}
 use Rattle.linux_model.specs.State.{Kernel, Process}
-use Rattle.linux_model.specs.Processes.{at_pid, process}
+use Rattle.linux_model.specs.Processes.{at_pid, process, is_live}
 use Rattle.linux_model.specs.Effects.{applies}
 use Rattle.linux_model.specs.Instructions.{Ran, many}
 use Rattle.linux_model.specs.Boot.{boot_of}
-use Rattle.linux_model.specs.Turns.{Schedule, flat}
-use Rattle.linux_model.specs.Fits.{PidsRise}
+use Rattle.linux_model.specs.Turns.{Schedule, flat, run_of, whose, ready}
+use Rattle.linux_model.specs.Fits.{Fits, PidsRise}
 
 -- ---- after every turn
 
@@ -37,3 +38,24 @@ abbrev pub InstructionsChangeRegistersAndSpaceAlone : Type 0
 InstructionsChangeRegistersAndSpaceAlone =
     (n : ℕ) (p : Process) (k : Kernel) → PidsRise 0 k.last k.procs → process k.procs p.pid ≡ Some p
     → applies (many n p.pid p.cpu (k.space p.pid)).effects k ≡ with_ran p.pid (many n p.pid p.cpu (k.space p.pid)) k
+
+-- what ran before a process's turn comes to its call: its instructions, or none where the call is kept
+abbrev pub ran_before : Schedule → Process → Option Waiting → Kernel → Ran
+ran_before schedule p None k = run_of schedule p k
+ran_before schedule p (Some w) k = many 0 p.pid p.cpu (k.space p.pid)
+
+-- a kernel in which a call of this process may come
+pub record MayCall (p : Process) (k : Kernel) : Type 0 where
+  pub fits : Fits k
+  pub none_above : NoneAbove k.last k.space
+  pub there : process k.procs p.pid ≡ Some p
+  pub lives : is_live p.state ≡ true
+
+-- What holds after n turns holds in the next one too, where the instructions of its process are over and a call comes: the
+-- process is there, alive, with the registers that the instructions left, and else as it was.
+abbrev pub CallsMayComeWithinTurns : Type 0
+CallsMayComeWithinTurns =
+    (schedule : Schedule) (program : Program) (args env : List (List ℕ)) (files : List FileOut) (input : List ℕ) (n : ℕ) (p : Process)
+    → let k = flat schedule (boot_of program args env files input) n in
+    whose schedule (suc n) k.procs (ready k) ≡ Some p
+    → MayCall (record p { cpu = (ran_before schedule p p.waiting k).cpu }) (applies (ran_before schedule p p.waiting k).effects k)
