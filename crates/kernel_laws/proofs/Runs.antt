@@ -14,7 +14,7 @@ use Rattle.kernel_objects.specs.declared.process.Waiting.{Waiting}
 use Rattle.linux_model.specs.Limits.{EAGAIN, EINVAL, PROCESSES, SIGCHLD}
 use Rattle.linux_model.specs.State.{Kernel, Process}
 use Rattle.linux_model.specs.Processes.{process, fds_of}
-use Rattle.linux_model.specs.Effects.{Copies, Forks, Returns, Keeps, Dies, Drops, apply, applies, forked}
+use Rattle.linux_model.specs.Effects.{Effect, Copies, Forks, Returns, Keeps, Dies, Drops, apply, applies, forked}
 use Rattle.linux_model.specs.Called.{Called, Gives, Becomes, Waits, Death}
 use Rattle.linux_model.specs.Descriptors.{arg, closings}
 use Rattle.linux_model.specs.ProcessCalls.{clone_row, dying}
@@ -28,8 +28,8 @@ use Rattle.linux_model.proofs.Booting.{booting}
 use Rattle.linux_model.proofs.Folds.{applies-append}
 use Rattle.linux_model.proofs.fits.Found.{found_pid}
 use Rattle.linux_model.proofs.fits.Runs.{every_fits}
-use Rattle.kernel_laws.specs.Laws.{NoneAbove, UnbornHaveNoSpace}
-use Rattle.kernel_laws.proofs.Own.{AllOwn, Good, all_own_keep, own-append}
+use Rattle.kernel_laws.specs.Laws.{NoneAbove, PidsAreFew, UnbornHaveNoSpace}
+use Rattle.kernel_laws.proofs.Own.{AllOwn, Good, Kept, all_own_keep, own-append}
 use Rattle.kernel_laws.proofs.Looks.{closings_own}
 use Rattle.kernel_laws.proofs.Rows as rows
 
@@ -67,87 +67,104 @@ instructions_own (suc n) pid cpu space =
 
 -- ---- calls
 
-abbrev Above : Kernel → Type 0
-Above k = NoneAbove k.last k.space
+-- what a kernel is after another one of the same turn, or of the turn before: a turn bears one process at most
+record Follows (k l : Kernel) : Type 0 where
+  few : l.last ≤ k.last + 1
+  above : NoneAbove k.last k.space → NoneAbove l.last l.space
+
+kept_follows : (k l : Kernel) → Kept k l → Follows k l
+kept_follows k l kept = record { few = let same = kept.last in omega (arith, same); above = kept.above }
+
+kept_then : (k l m : Kernel) → Kept k l → Follows l m → Follows k m
+kept_then k l m kept next = record { few = let same = kept.last in let more = next.few in omega (arith, same, more); above = λ none. next.above (kept.above none) }
+
+itself : (k : Kernel) → Follows k k
+itself k = record { few = omega arith; above = λ none. none }
 
 dying_own : (pid status : ℕ) (k : Kernel) → AllOwn pid (dying pid status k)
 dying_own pid status k = own-append pid (closings (λ e. true) pid 0 (fds_of (process k.procs pid)) k) (Dies pid status ∷ Drops pid ∷ []) (closings_own (λ e. true) pid pid 0 (fds_of (process k.procs pid)) k) (tt, (refl, tt))
 
-by_row : (p : Process) (c : Called) (k : Kernel) → Good p.pid c → p.pid ≤ k.last → Above k → Above (applies (called p c k) k)
-by_row p (Gives effects value) k own low none = (all_own_keep (effects ++ Returns p.pid (with_reg p.cpu 10 value (next_pc p.cpu)) ∷ []) p.pid k (own-append p.pid effects _ own (tt, tt)) low).above none
-by_row p (Becomes effects cpu) k own low none = (all_own_keep (effects ++ Returns p.pid cpu ∷ []) p.pid k (own-append p.pid effects _ own (tt, tt)) low).above none
-by_row p (Waits effects moved len) k own low none = (all_own_keep (effects ++ Keeps p.pid moved len ∷ []) p.pid k (own-append p.pid effects _ own (tt, tt)) low).above none
-by_row p (Death effects status) k own low none = (all_own_keep (effects ++ dying p.pid status (applies effects k)) p.pid k (own-append p.pid effects _ own (dying_own p.pid status (applies effects k))) low).above none
+own_follows : (es : List Effect) (pid : ℕ) (k : Kernel) → AllOwn pid es → pid ≤ k.last → Follows k (applies es k)
+own_follows es pid k own low = kept_follows k (applies es k) (all_own_keep es pid k own low)
+
+by_row : (p : Process) (c : Called) (k : Kernel) → Good p.pid c → p.pid ≤ k.last → Follows k (applies (called p c k) k)
+by_row p (Gives effects value) k own low = own_follows (effects ++ Returns p.pid (with_reg p.cpu 10 value (next_pc p.cpu)) ∷ []) p.pid k (own-append p.pid effects _ own (tt, tt)) low
+by_row p (Becomes effects cpu) k own low = own_follows (effects ++ Returns p.pid cpu ∷ []) p.pid k (own-append p.pid effects _ own (tt, tt)) low
+by_row p (Waits effects moved len) k own low = own_follows (effects ++ Keeps p.pid moved len ∷ []) p.pid k (own-append p.pid effects _ own (tt, tt)) low
+by_row p (Death effects status) k own low = own_follows (effects ++ dying p.pid status (applies effects k)) p.pid k (own-append p.pid effects _ own (dying_own p.pid status (applies effects k))) low
 
 -- a child is the last one then
-born : (p : Process) (o : Option Process) (cpu after : Cpu) (k : Kernel) → o ≡ Some p → Above k
-    → Above (apply (Returns p.pid after) (forked o (k.last + 1) cpu (record k { space = with_space k.space (k.last + 1) (k.space p.pid) })))
-born p o cpu after k is none =
-    subst (λ (o : Option Process). Above (apply (Returns p.pid after) (forked o (k.last + 1) cpu (record k { space = with_space k.space (k.last + 1) (k.space p.pid) })))) (sym is)
-    (λ q high. cond-false _ (k.space p.pid) (k.space q) (ne_eqb q (k.last + 1) (λ same. omega (arith, high, same))) ∙ none q (omega (arith, high)))
+born : (p : Process) (o : Option Process) (cpu after : Cpu) (k : Kernel) → o ≡ Some p
+    → Follows k (apply (Returns p.pid after) (forked o (k.last + 1) cpu (record k { space = with_space k.space (k.last + 1) (k.space p.pid) })))
+born p o cpu after k is =
+    subst (λ (o : Option Process). Follows k (apply (Returns p.pid after) (forked o (k.last + 1) cpu (record k { space = with_space k.space (k.last + 1) (k.space p.pid) })))) (sym is)
+    (record {
+      few = omega arith;
+      above = λ none q high. cond-false _ (k.space p.pid) (k.space q) (ne_eqb q (k.last + 1) (λ same. omega (arith, high, same))) ∙ none q (omega (arith, high));
+    })
 
-clone_keeps : (p : Process) (k : Kernel) (flags stack : ℕ) → process k.procs p.pid ≡ Some p → p.pid ≤ k.last → Above k → Above (applies (called p (clone_row p k flags stack) k) k)
-clone_keeps p k flags stack there low none = by (not (flags == SIGCHLD && stack == 0)) (leb PROCESSES (length k.procs))
+clone_keeps : (p : Process) (k : Kernel) (flags stack : ℕ) → process k.procs p.pid ≡ Some p → p.pid ≤ k.last → Follows k (applies (called p (clone_row p k flags stack) k) k)
+clone_keeps p k flags stack there low = by (not (flags == SIGCHLD && stack == 0)) (leb PROCESSES (length k.procs))
   where
-    by : (b c : Bool) → Above (applies (called p (cond b (Gives [] EINVAL) (cond c (Gives [] EAGAIN) (Gives (Copies p.pid (k.last + 1) ∷ Forks p.pid (k.last + 1) (with_reg p.cpu 10 0 (next_pc p.cpu)) ∷ []) (k.last + 1)))) k) k)
-    by true c = none
-    by false true = none
-    by false false = born p (process k.procs p.pid) (with_reg p.cpu 10 0 (next_pc p.cpu)) (with_reg p.cpu 10 (k.last + 1) (next_pc p.cpu)) k there none
+    by : (b c : Bool) → Follows k (applies (called p (cond b (Gives [] EINVAL) (cond c (Gives [] EAGAIN) (Gives (Copies p.pid (k.last + 1) ∷ Forks p.pid (k.last + 1) (with_reg p.cpu 10 0 (next_pc p.cpu)) ∷ []) (k.last + 1)))) k) k)
+    by true c = by_row p (Gives [] EINVAL) k tt low
+    by false true = by_row p (Gives [] EAGAIN) k tt low
+    by false false = born p (process k.procs p.pid) (with_reg p.cpu 10 0 (next_pc p.cpu)) (with_reg p.cpu 10 (k.last + 1) (next_pc p.cpu)) k there
 
-row_keeps : (c : Option Call) (p : Process) (k : Kernel) → process k.procs p.pid ≡ Some p → p.pid ≤ k.last → Above k → Above (applies (called p (row c p k) k) k)
-row_keeps None p k there low none = by_row p (row None p k) k tt low none
-row_keeps (Some Dup) p k there low none = by_row p (row (Some Dup) p k) k (rows.dup p k (arg p 0)) low none
-row_keeps (Some Dup3) p k there low none = by_row p (row (Some Dup3) p k) k (rows.dup3 p k (arg p 0) (arg p 1) (arg p 2)) low none
-row_keeps (Some Unlinkat) p k there low none = by_row p (row (Some Unlinkat) p k) k (rows.unlinkat p k (arg p 0) (arg p 1) (arg p 2)) low none
-row_keeps (Some Ftruncate) p k there low none = by_row p (row (Some Ftruncate) p k) k (rows.ftruncate p k (arg p 0) (arg p 1)) low none
-row_keeps (Some Openat) p k there low none = by_row p (row (Some Openat) p k) k (rows.openat p k (arg p 0) (arg p 1) (arg p 2)) low none
-row_keeps (Some Close) p k there low none = by_row p (row (Some Close) p k) k (rows.close p k (arg p 0)) low none
-row_keeps (Some Pipe2) p k there low none = by_row p (row (Some Pipe2) p k) k (rows.pipe2 p k (arg p 0) (arg p 1)) low none
-row_keeps (Some Lseek) p k there low none = by_row p (row (Some Lseek) p k) k (rows.lseek p k (arg p 0) (arg p 1) (arg p 2)) low none
-row_keeps (Some Read) p k there low none = by_row p (row (Some Read) p k) k (rows.read p k (arg p 0) (arg p 1) (arg p 2)) low none
-row_keeps (Some Write) p k there low none = by_row p (row (Some Write) p k) k (rows.write p k (arg p 0) (arg p 1) (arg p 2)) low none
-row_keeps (Some Readv) p k there low none = by_row p (row (Some Readv) p k) k (rows.readv p k (arg p 0) (arg p 1) (arg p 2)) low none
-row_keeps (Some Writev) p k there low none = by_row p (row (Some Writev) p k) k (rows.writev p k (arg p 0) (arg p 1) (arg p 2)) low none
-row_keeps (Some Pread64) p k there low none = by_row p (row (Some Pread64) p k) k (rows.pread64 p k (arg p 0) (arg p 1) (arg p 2) (arg p 3)) low none
-row_keeps (Some Pwrite64) p k there low none = by_row p (row (Some Pwrite64) p k) k (rows.pwrite64 p k (arg p 0) (arg p 1) (arg p 2) (arg p 3)) low none
-row_keeps (Some BrkCall) p k there low none = by_row p (row (Some BrkCall) p k) k (rows.brk p k (arg p 0)) low none
-row_keeps (Some Munmap) p k there low none = by_row p (row (Some Munmap) p k) k (rows.munmap p k (arg p 0) (arg p 1)) low none
-row_keeps (Some Clone) p k there low none = clone_keeps p k (arg p 0) (arg p 1) there low none
-row_keeps (Some Execve) p k there low none = by_row p (row (Some Execve) p k) k (rows.execve p k (arg p 0) (arg p 1) (arg p 2)) low none
-row_keeps (Some Mmap) p k there low none = by_row p (row (Some Mmap) p k) k (rows.mmap p k (arg p 0) (arg p 1) (arg p 2) (arg p 3)) low none
-row_keeps (Some Mprotect) p k there low none = by_row p (row (Some Mprotect) p k) k (rows.mprotect p k (arg p 0) (arg p 1) (arg p 2)) low none
-row_keeps (Some Wait4) p k there low none = by_row p (row (Some Wait4) p k) k (rows.wait4 p k (arg p 0) (arg p 1) (arg p 2) (arg p 3)) low none
-row_keeps (Some Exit) p k there low none = by_row p (row (Some Exit) p k) k tt low none
-row_keeps (Some ExitGroup) p k there low none = by_row p (row (Some ExitGroup) p k) k tt low none
-row_keeps (Some SetTidAddress) p k there low none = by_row p (row (Some SetTidAddress) p k) k tt low none
-row_keeps (Some SchedYield) p k there low none = by_row p (row (Some SchedYield) p k) k tt low none
-row_keeps (Some GetPid) p k there low none = by_row p (row (Some GetPid) p k) k tt low none
-row_keeps (Some GetPpid) p k there low none = by_row p (row (Some GetPpid) p k) k tt low none
-row_keeps (Some GetTid) p k there low none = by_row p (row (Some GetTid) p k) k tt low none
+row_keeps : (c : Option Call) (p : Process) (k : Kernel) → process k.procs p.pid ≡ Some p → p.pid ≤ k.last → Follows k (applies (called p (row c p k) k) k)
+row_keeps None p k there low = by_row p (row None p k) k tt low
+row_keeps (Some Dup) p k there low = by_row p (row (Some Dup) p k) k (rows.dup p k (arg p 0)) low
+row_keeps (Some Dup3) p k there low = by_row p (row (Some Dup3) p k) k (rows.dup3 p k (arg p 0) (arg p 1) (arg p 2)) low
+row_keeps (Some Unlinkat) p k there low = by_row p (row (Some Unlinkat) p k) k (rows.unlinkat p k (arg p 0) (arg p 1) (arg p 2)) low
+row_keeps (Some Ftruncate) p k there low = by_row p (row (Some Ftruncate) p k) k (rows.ftruncate p k (arg p 0) (arg p 1)) low
+row_keeps (Some Openat) p k there low = by_row p (row (Some Openat) p k) k (rows.openat p k (arg p 0) (arg p 1) (arg p 2)) low
+row_keeps (Some Close) p k there low = by_row p (row (Some Close) p k) k (rows.close p k (arg p 0)) low
+row_keeps (Some Pipe2) p k there low = by_row p (row (Some Pipe2) p k) k (rows.pipe2 p k (arg p 0) (arg p 1)) low
+row_keeps (Some Lseek) p k there low = by_row p (row (Some Lseek) p k) k (rows.lseek p k (arg p 0) (arg p 1) (arg p 2)) low
+row_keeps (Some Read) p k there low = by_row p (row (Some Read) p k) k (rows.read p k (arg p 0) (arg p 1) (arg p 2)) low
+row_keeps (Some Write) p k there low = by_row p (row (Some Write) p k) k (rows.write p k (arg p 0) (arg p 1) (arg p 2)) low
+row_keeps (Some Readv) p k there low = by_row p (row (Some Readv) p k) k (rows.readv p k (arg p 0) (arg p 1) (arg p 2)) low
+row_keeps (Some Writev) p k there low = by_row p (row (Some Writev) p k) k (rows.writev p k (arg p 0) (arg p 1) (arg p 2)) low
+row_keeps (Some Pread64) p k there low = by_row p (row (Some Pread64) p k) k (rows.pread64 p k (arg p 0) (arg p 1) (arg p 2) (arg p 3)) low
+row_keeps (Some Pwrite64) p k there low = by_row p (row (Some Pwrite64) p k) k (rows.pwrite64 p k (arg p 0) (arg p 1) (arg p 2) (arg p 3)) low
+row_keeps (Some BrkCall) p k there low = by_row p (row (Some BrkCall) p k) k (rows.brk p k (arg p 0)) low
+row_keeps (Some Munmap) p k there low = by_row p (row (Some Munmap) p k) k (rows.munmap p k (arg p 0) (arg p 1)) low
+row_keeps (Some Clone) p k there low = clone_keeps p k (arg p 0) (arg p 1) there low
+row_keeps (Some Execve) p k there low = by_row p (row (Some Execve) p k) k (rows.execve p k (arg p 0) (arg p 1) (arg p 2)) low
+row_keeps (Some Mmap) p k there low = by_row p (row (Some Mmap) p k) k (rows.mmap p k (arg p 0) (arg p 1) (arg p 2) (arg p 3)) low
+row_keeps (Some Mprotect) p k there low = by_row p (row (Some Mprotect) p k) k (rows.mprotect p k (arg p 0) (arg p 1) (arg p 2)) low
+row_keeps (Some Wait4) p k there low = by_row p (row (Some Wait4) p k) k (rows.wait4 p k (arg p 0) (arg p 1) (arg p 2) (arg p 3)) low
+row_keeps (Some Exit) p k there low = by_row p (row (Some Exit) p k) k tt low
+row_keeps (Some ExitGroup) p k there low = by_row p (row (Some ExitGroup) p k) k tt low
+row_keeps (Some SetTidAddress) p k there low = by_row p (row (Some SetTidAddress) p k) k tt low
+row_keeps (Some SchedYield) p k there low = by_row p (row (Some SchedYield) p k) k tt low
+row_keeps (Some GetPid) p k there low = by_row p (row (Some GetPid) p k) k tt low
+row_keeps (Some GetPpid) p k there low = by_row p (row (Some GetPpid) p k) k tt low
+row_keeps (Some GetTid) p k there low = by_row p (row (Some GetTid) p k) k tt low
 
 -- ---- a turn
 
 its_pid : (k : Kernel) (pid : ℕ) (p : Process) → process k.procs pid ≡ Some p → p.pid ≡ pid
 its_pid k pid p is = eqb-true p.pid pid (found_pid k.procs pid p is)
 
-call_keeps : (o : Option Process) (pid : ℕ) (k : Kernel) → process k.procs pid ≡ o → pid ≤ k.last → Above k → Above (applies (call_effects o k) k)
-call_keeps None pid k is low none = none
-call_keeps (Some p) pid k is low none =
+call_keeps : (o : Option Process) (pid : ℕ) (k : Kernel) → process k.procs pid ≡ o → pid ≤ k.last → Follows k (applies (call_effects o k) k)
+call_keeps None pid k is low = itself k
+call_keeps (Some p) pid k is low =
     let own : p.pid ≡ pid = its_pid k pid p is in
-    row_keeps (call_by p) p k (ap (process k.procs) own ∙ is) (omega (arith, own, low)) none
+    row_keeps (call_by p) p k (ap (process k.procs) own ∙ is) (omega (arith, own, low))
 
-stop_keeps : (stop : StepEnd) (pid : ℕ) (k : Kernel) → pid ≤ k.last → Above k → Above (applies (at_stop stop pid k) k)
-stop_keeps Next pid k low none = none
-stop_keeps AtCall pid k low none = call_keeps (process k.procs pid) pid k refl low none
-stop_keeps (DeadBy signal) pid k low none = (all_own_keep (dying pid signal k) pid k (dying_own pid signal k) low).above none
+stop_keeps : (stop : StepEnd) (pid : ℕ) (k : Kernel) → pid ≤ k.last → Follows k (applies (at_stop stop pid k) k)
+stop_keeps Next pid k low = itself k
+stop_keeps AtCall pid k low = call_keeps (process k.procs pid) pid k refl low
+stop_keeps (DeadBy signal) pid k low = own_follows (dying pid signal k) pid k (dying_own pid signal k) low
 
-acts_keep : (schedule : Schedule) (p : Process) (w : Option Waiting) (k : Kernel) → process k.procs p.pid ≡ Some p → p.pid ≤ k.last → Above k → Above (applies (acts schedule p w k) k)
-acts_keep schedule p None k is low none =
+acts_keep : (schedule : Schedule) (p : Process) (w : Option Waiting) (k : Kernel) → process k.procs p.pid ≡ Some p → p.pid ≤ k.last → Follows k (applies (acts schedule p w k) k)
+acts_keep schedule p None k is low =
     let r : Ran = run_of schedule p k in
     let kept = all_own_keep r.effects p.pid k (instructions_own schedule.quantum p.pid p.cpu (k.space p.pid)) low in
     let below : p.pid ≤ (applies r.effects k).last = let same = kept.last in omega (arith, same, low) in
-    subst Above (sym (applies-append r.effects (at_stop r.stop p.pid (applies r.effects k)) k)) (stop_keeps r.stop p.pid (applies r.effects k) below (kept.above none))
-acts_keep schedule p (Some w) k is low none = call_keeps (Some p) p.pid k is low none
+    subst (Follows k) (sym (applies-append r.effects (at_stop r.stop p.pid (applies r.effects k)) k)) (kept_then k (applies r.effects k) _ kept (stop_keeps r.stop p.pid (applies r.effects k) below))
+acts_keep schedule p (Some w) k is low = call_keeps (Some p) p.pid k is low
 
 -- pids are at most the last one
 low_first : (low last pid : ℕ) (b : Bool) (q p : Process) (rest : Option Process) → q.pid ≤ last → eqb q.pid pid ≡ b → (rest ≡ Some p → pid ≤ last) → cond b (Some q) rest ≡ Some p → pid ≤ last
@@ -158,22 +175,22 @@ pub pid_low : (low last pid : ℕ) (procs : List Process) (p : Process) → Pids
 pid_low low last pid [] p r is = cc is
 pid_low low last pid (q ∷ procs) p r is = low_first low last pid (eqb q.pid pid) q p (process procs pid) r.1 refl (pid_low q.pid last pid procs p r.2) is
 
-turn_keeps : (schedule : Schedule) (n : ℕ) (k : Kernel) (pids : List ℕ) → Fits k → Above k → Above (applies (turn_of schedule n (whose schedule n k.procs pids) k) k)
-turn_keeps schedule n k [] f none = none
-turn_keeps schedule n k (pid ∷ pids) f none = by (process k.procs (chosen schedule n (pid ∷ pids))) refl
+turn_keeps : (schedule : Schedule) (n : ℕ) (k : Kernel) (pids : List ℕ) → Fits k → Follows k (applies (turn_of schedule n (whose schedule n k.procs pids) k) k)
+turn_keeps schedule n k [] f = itself k
+turn_keeps schedule n k (pid ∷ pids) f = by (process k.procs (chosen schedule n (pid ∷ pids))) refl
   where
-    by : (o : Option Process) → process k.procs (chosen schedule n (pid ∷ pids)) ≡ o → Above (applies (turn_of schedule n o k) k)
-    by None is = none
+    by : (o : Option Process) → process k.procs (chosen schedule n (pid ∷ pids)) ≡ o → Follows k (applies (turn_of schedule n o k) k)
+    by None is = itself k
     by (Some p) is =
         let own : p.pid ≡ chosen schedule n (pid ∷ pids) = its_pid k (chosen schedule n (pid ∷ pids)) p is in
         let there : process k.procs p.pid ≡ Some p = ap (process k.procs) own ∙ is in
-        acts_keep schedule p p.waiting k there (pid_low 0 k.last p.pid k.procs p f.pids there) none
+        acts_keep schedule p p.waiting k there (pid_low 0 k.last p.pid k.procs p f.pids there)
 
 -- ---- a run
 
-booted_above : (program : Program) (args env : List (List ℕ)) (files : List FileOut) (input : List ℕ) → Above (boot_of program args env files input)
+booted_above : (program : Program) (args env : List (List ℕ)) (files : List FileOut) (input : List ℕ) → NoneAbove (boot_of program args env files input).last (boot_of program args env files input).space
 booted_above program args env files input =
-    subst Above (sym (booting program args env files input))
+    subst (λ (k : Kernel). NoneAbove k.last k.space) (sym (booting program args env files input))
     (λ q high. cond-false _ (start_space program args env) no_space (ne_eqb q 1 (λ same. omega (arith, high, same))))
 
 pub unborn : UnbornHaveNoSpace
@@ -181,4 +198,16 @@ unfolding flat
 unborn schedule program args env files input zero = booted_above program args env files input
 unborn schedule program args env files input (suc n) =
     let k : Kernel = flat schedule (boot_of program args env files input) n in
-    turn_keeps schedule (suc n) k (ready k) (every_fits schedule program args env files input n) (unborn schedule program args env files input n)
+    (turn_keeps schedule (suc n) k (ready k) (every_fits schedule program args env files input n)).above (unborn schedule program args env files input n)
+
+booted_last : (program : Program) (args env : List (List ℕ)) (files : List FileOut) (input : List ℕ) → (boot_of program args env files input).last ≡ 1
+booted_last program args env files input = ap (λ (k : Kernel). k.last) (booting program args env files input)
+
+pub few : PidsAreFew
+unfolding flat
+few schedule program args env files input zero = let one = booted_last program args env files input in omega (arith, one)
+few schedule program args env files input (suc n) =
+    let k : Kernel = flat schedule (boot_of program args env files input) n in
+    let before : k.last ≤ n + 1 = few schedule program args env files input n in
+    let turn = (turn_keeps schedule (suc n) k (ready k) (every_fits schedule program args env files input n)).few in
+    omega (arith, before, turn)

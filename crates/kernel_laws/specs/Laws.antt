@@ -1,5 +1,5 @@
 -- What holds of every kernel that a run reaches, beside what linux_model says of it.
-use Rattle.std.specs.Prelude.{◌≡◌, ◌<◌, ℕ, suc, true, List, Option, Some, None}
+use Rattle.std.specs.Prelude.{◌≡◌, ◌<◌, ◌≤◌, ◌+◌, ℕ, suc, true, List, Option, Some, None}
 use Rattle.lego_base.specs.declared.report.FileOut.{FileOut}
 use Rattle.lego_base.specs.Space.{Space, no_space, with_space}
 use Rattle.elf_image.specs.Image.{Program}
@@ -23,6 +23,12 @@ UnbornHaveNoSpace =
     (schedule : Schedule) (program : Program) (args env : List (List ℕ)) (files : List FileOut) (input : List ℕ) (n : ℕ)
     → NoneAbove (flat schedule (boot_of program args env files input) n).last (flat schedule (boot_of program args env files input) n).space
 
+-- Booting gives the first pid, and a turn forks at most one child.
+abbrev pub PidsAreFew : Type 0
+PidsAreFew =
+    (schedule : Schedule) (program : Program) (args env : List (List ℕ)) (files : List FileOut) (input : List ℕ) (n : ℕ)
+    → (flat schedule (boot_of program args env files input) n).last ≤ n + 1
+
 -- ---- within a turn
 
 -- the kernel in which a process has the registers and the space that instructions left
@@ -44,10 +50,11 @@ abbrev pub ran_before : Schedule → Process → Option Waiting → Kernel → R
 ran_before schedule p None k = run_of schedule p k
 ran_before schedule p (Some w) k = many 0 p.pid p.cpu (k.space p.pid)
 
--- a kernel in which a call of this process may come
-pub record MayCall (p : Process) (k : Kernel) : Type 0 where
+-- a kernel after n turns and some instructions of a process, in which a call of it may come
+pub record MayCall (n : ℕ) (p : Process) (k : Kernel) : Type 0 where
   pub fits : Fits k
   pub none_above : NoneAbove k.last k.space
+  pub few : k.last ≤ n + 1
   pub there : process k.procs p.pid ≡ Some p
   pub lives : is_live p.state ≡ true
 
@@ -58,4 +65,4 @@ CallsMayComeWithinTurns =
     (schedule : Schedule) (program : Program) (args env : List (List ℕ)) (files : List FileOut) (input : List ℕ) (n : ℕ) (p : Process)
     → let k = flat schedule (boot_of program args env files input) n in
     whose schedule (suc n) k.procs (ready k) ≡ Some p
-    → MayCall (record p { cpu = (ran_before schedule p p.waiting k).cpu }) (applies (ran_before schedule p p.waiting k).effects k)
+    → MayCall n (record p { cpu = (ran_before schedule p p.waiting k).cpu }) (applies (ran_before schedule p p.waiting k).effects k)
