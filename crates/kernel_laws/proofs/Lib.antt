@@ -1,3 +1,4 @@
+pub mod Breaks
 pub mod Own
 pub mod Looks
 pub mod Rows

@@ -1,5 +1,5 @@
 -- Applying the effects of instructions is putting their registers and their space at the process.
-use Rattle.std.proofs.Common.{◌≡◌, ℕ, zero, suc, ◌<◌, ◌≤◌, Bool, true, false, cond, eqb, refl, sym, ◌∙◌, ap, subst, List, [], ◌∷◌, ◌++◌, Option, Some, None, arith}
+use Rattle.std.proofs.Common.{◌≡◌, ℕ, zero, suc, ◌<◌, ◌≤◌, Bool, true, false, cond, eqb, refl, sym, ◌∙◌, ap, subst, List, [], ◌∷◌, Option, Some, None, arith}
 use Rattle.std.proofs.lemmas.Bool.{cond-true, cond-false, eq-eqb, eqb-true, ne_eqb}
 use Rattle.lego_base.specs.Space.{Space, permits, bytes_at, number_of, bytes_of, with_bytes, with_space}
 use Rattle.rv64_decode.specs.declared.Instr.{Instr}
@@ -11,7 +11,7 @@ use Rattle.rv64_step.specs.Meaning.{Asks, Ends, Loads, Stores, asks}
 use Rattle.rv64_step.proofs.Writes.{with_space-same}
 use Rattle.linux_model.specs.State.{Kernel, Process}
 use Rattle.linux_model.specs.Processes.{at_pid, process}
-use Rattle.linux_model.specs.Effects.{Effect, applies}
+use Rattle.linux_model.specs.Effects.{applies}
 use Rattle.linux_model.specs.Instructions.{Ran, asked, obeyed, one, goes_on, many}
 use Rattle.linux_model.specs.Fits.{PidsRise}
 use Rattle.linux_model.proofs.Folds.{applies-append}

@@ -1,5 +1,6 @@
 -- What a call does touches the space of its process alone, row by row; clone(2) is the one that bears a process.
-use Rattle.std.proofs.Common.{ℕ, ◌+◌, ◌-◌, ◌*◌, ◌/◌, Bool, true, false, cond, not, eqb, ltb, leb, ◌==◌, ◌&&◌, ◌||◌, refl, List, [], ◌∷◌, ◌++◌, length, take, Option, Some, None, is_none, is_some}
+use Rattle.std.proofs.Common.{◌≡◌, ℕ, ◌≤◌, ◌+◌, ◌-◌, ◌*◌, ◌/◌, Bool, true, false, cond, not, eqb, ltb, leb, ◌==◌, ◌&&◌, ◌||◌, refl, List, [], ◌∷◌, ◌++◌, length, take, Option, Some, None, is_none, is_some, arith}
+use Rattle.std.proofs.lemmas.Bool.{ltb-false, or_parts}
 use Rattle.lego_base.specs.declared.ids.FileNo.{FileNo}
 use Rattle.lego_base.specs.declared.perms.Perms.{Perms}
 use Rattle.lego_base.specs.declared.records.Area.{Area}
@@ -9,6 +10,7 @@ use Rattle.lego_base.specs.Pieces.{piece}
 use Rattle.lego_base.specs.Space.{bytes_at}
 use Rattle.area_list.specs.Cover.{covered}
 use Rattle.area_list.specs.Runs.{cut_runs, put_runs}
+use Rattle.elf_image.specs.declared.fault.ImageFault.{ImageFault}
 use Rattle.elf_image.specs.Image.{program_of, first_fault}
 use Rattle.kernel_objects.specs.declared.descriptor.FdEntry.{FdEntry}
 use Rattle.kernel_objects.specs.declared.descriptor.Object.{Object}
@@ -36,7 +38,8 @@ use Rattle.linux_model.specs.Limits.{DESCRIPTORS, EEXIST, EMFILE, ENFILE, ENOSPC
 use Rattle.linux_model.specs.Effects.{MakesFile, MakesPipe, Opens, Shares}
 use Rattle.linux_model.specs.Descriptors.{closing, closing_entry, close_row, descriptions_left, dup_row, dup3_row, entry, pipe2_row}
 use Rattle.linux_model.specs.FileCalls.{opened_at, openat_row, opens_file, opens_name}
-use Rattle.kernel_laws.proofs.Own.{AllOwn, Good, own-append, following_good, choice, first_good, given_good}
+use Rattle.kernel_laws.proofs.Own.{AllOwn, Good, own-append, following_good, choice, first_good, unless_good, given_good}
+use Rattle.kernel_laws.proofs.Breaks.{good_images}
 use Rattle.kernel_laws.proofs.Looks.{closing_own, checks, copies, out_copies, text, list, loads, freeing_own, closings_own}
 
 -- ---- buffers and paths
@@ -125,6 +128,13 @@ object_write p k o (PipeRead pipe) pieces n = tt
 pieces_write : (p : Process) (k : Kernel) (o : Open) (pieces : List Piece) (n : ℕ) → Good p.pid (writes_pieces p k o pieces n)
 pieces_write p k o pieces n = first_good p.pid ((n == 0, 0) ∷ []) _ (object_write p k o o.is.object pieces n)
 
+low_break : (address : ℕ) → address ≤ MAPPINGS_START → address ≤ USER_END
+low_break address low = omega (arith, low)
+
+no_fault : (fault : Option ImageFault) → is_some fault ≡ false → fault ≡ None
+no_fault None e = refl
+no_fault (Some fault) e = cc e
+
 module _ (p : Process) (k : Kernel) where
   pub read : (fd address len : ℕ) → Good p.pid (read_row p k fd address len)
   read fd address len = given_good p.pid (that is_readable (opened p fd k)) _ _ (λ o. pieces_read p k o (one_piece address (counted len)) (counted len))
@@ -172,21 +182,23 @@ module _ (p : Process) (k : Kernel) where
   asks_all : (c : Called) → Good p.pid c → Good p.pid (following (AsksSpace p.pid ∷ []) c)
   asks_all c g = following_good p.pid (AsksSpace p.pid ∷ []) c ((tt, tt)) g
 
-  grow : (address first_page pages : ℕ) → Good p.pid (grows p k address first_page pages)
-  grow address first_page pages =
-      choice p.pid (not (is_free (areas_of p k) first_page pages) || is_past_limits (put_runs first_page pages read_write (areas_of p k))) (says p.brk.now) (Gives (Maps p.pid (put_runs first_page pages read_write (areas_of p k)) ∷ moves_break p address ∷ []) address) tt (refl, (tt, tt))
+  grow : (address first_page pages : ℕ) → address ≤ USER_END → Good p.pid (grows p k address first_page pages)
+  grow address first_page pages within =
+      choice p.pid (not (is_free (areas_of p k) first_page pages) || is_past_limits (put_runs first_page pages read_write (areas_of p k))) (says p.brk.now) (Gives (Maps p.pid (put_runs first_page pages read_write (areas_of p k)) ∷ moves_break p address ∷ []) address) tt (refl, (within, tt))
 
-  shrink : (address first_page pages : ℕ) → Good p.pid (shrinks p k address first_page pages)
-  shrink address first_page pages =
-      choice p.pid (has_many_runs (cut_runs first_page pages (areas_of p k))) (says p.brk.now) (Gives (Unmaps p.pid first_page pages ∷ moves_break p address ∷ []) address) tt (refl, (tt, tt))
+  shrink : (address first_page pages : ℕ) → address ≤ USER_END → Good p.pid (shrinks p k address first_page pages)
+  shrink address first_page pages within =
+      choice p.pid (has_many_runs (cut_runs first_page pages (areas_of p k))) (says p.brk.now) (Gives (Unmaps p.pid first_page pages ∷ moves_break p address ∷ []) address) tt (refl, (within, tt))
 
-  between : (address was to : ℕ) → Good p.pid (brk_between p k address was to)
-  between address was to =
-      choice p.pid (ltb was to) (following (AsksSpace p.pid ∷ []) (grows p k address was (to - was))) _ (asks_all (grows p k address was (to - was)) (grow address was (to - was)))
-      (choice p.pid (ltb to was) (following (AsksSpace p.pid ∷ []) (shrinks p k address to (was - to))) (Gives (moves_break p address ∷ []) address) (asks_all (shrinks p k address to (was - to)) (shrink address to (was - to))) (tt, tt))
+  between : (address was to : ℕ) → address ≤ USER_END → Good p.pid (brk_between p k address was to)
+  between address was to within =
+      choice p.pid (ltb was to) (following (AsksSpace p.pid ∷ []) (grows p k address was (to - was))) _ (asks_all (grows p k address was (to - was)) (grow address was (to - was) within))
+      (choice p.pid (ltb to was) (following (AsksSpace p.pid ∷ []) (shrinks p k address to (was - to))) (Gives (moves_break p address ∷ []) address) (asks_all (shrinks p k address to (was - to)) (shrink address to (was - to) within)) (within, tt))
 
   pub brk : (address : ℕ) → Good p.pid (brk_row p k address)
-  brk address = first_good p.pid ((ltb address p.brk.base || ltb MAPPINGS_START address, p.brk.now) ∷ []) (brk_between p k address (pages_for p.brk.now) (pages_for address)) (between address (pages_for p.brk.now) (pages_for address))
+  brk address =
+      unless_good p.pid (ltb address p.brk.base || ltb MAPPINGS_START address) p.brk.now (brk_between p k address (pages_for p.brk.now) (pages_for address))
+      (λ moves. between address (pages_for p.brk.now) (pages_for address) (low_break address (ltb-false MAPPINGS_START address (or_parts (ltb address p.brk.base) (ltb MAPPINGS_START address) moves).1)))
 
   pub munmap : (address len : ℕ) → Good p.pid (munmap_row p k address len)
   munmap address len = first_good p.pid ((not (is_page_address address) || len == 0 || ltb USER_END (address + len), EINVAL) ∷ []) (following (AsksSpace p.pid ∷ []) (first ((has_many_runs (cut_runs (address / 4096) (pages_for len) (areas_of p k)), ENOMEM) ∷ []) (Gives (Unmaps p.pid (address / 4096) (pages_for len) ∷ []) 0))) (asks_all (first ((has_many_runs (cut_runs (address / 4096) (pages_for len) (areas_of p k)), ENOMEM) ∷ []) (Gives (Unmaps p.pid (address / 4096) (pages_for len) ∷ []) 0)) (first_good p.pid ((has_many_runs (cut_runs (address / 4096) (pages_for len) (areas_of p k)), ENOMEM) ∷ []) (Gives (Unmaps p.pid (address / 4096) (pages_for len) ∷ []) 0) (refl, tt)))
@@ -219,10 +231,10 @@ module _ (p : Process) (k : Kernel) where
 
   execute : (args env : List (List ℕ)) (bytes : List ℕ) → Good p.pid (executes_bytes p k bytes args env)
   execute args env bytes =
-      first_good p.pid ((is_some (first_fault bytes), ENOEXEC) ∷ []) (executes p k (program_of bytes) args env)
-      (own-append p.pid (closings (λ e. e.cloexec) p.pid 0 p.fds k ++ Drops p.pid ∷ loads_program p.pid (program_of bytes) args env) (Breaks p.pid (program_of bytes).brk (program_of bytes).brk ∷ [])
+      unless_good p.pid (is_some (first_fault bytes)) ENOEXEC (executes p k (program_of bytes) args env)
+      (λ good. own-append p.pid (closings (λ e. e.cloexec) p.pid 0 p.fds k ++ Drops p.pid ∷ loads_program p.pid (program_of bytes) args env) (Breaks p.pid (program_of bytes).brk (program_of bytes).brk ∷ [])
       (own-append p.pid (closings (λ e. e.cloexec) p.pid 0 p.fds k) (Drops p.pid ∷ loads_program p.pid (program_of bytes) args env) (closings_own (λ e. e.cloexec) p.pid p.pid 0 p.fds k) (refl, loads p.pid (program_of bytes) args env))
-      (tt, tt))
+      (good_images bytes (no_fault (first_fault bytes) good), tt))
 
   found : (args env : List (List ℕ)) (name : List ℕ) (file : Option FileNo) → Good p.pid (executes_found p k args env (Named name file))
   found args env name None = tt

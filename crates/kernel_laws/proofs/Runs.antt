@@ -1,7 +1,9 @@
 -- After every turn of every run.
 use Rattle.std.proofs.Common.{◌≡◌, ℕ, zero, suc, ◌+◌, ◌≤◌, Bool, true, false, cond, not, eqb, leb, ◌==◌, ◌&&◌, refl, sym, ◌∙◌, ap, subst, List, [], ◌∷◌, ◌++◌, length, Option, Some, None, arith}
 use Rattle.std.proofs.lemmas.Bool.{cond-false, eqb-true, ne_eqb}
+use Rattle.std.proofs.lemmas.List.Elements.{All-nil, All-cons}
 use Rattle.lego_base.specs.declared.report.FileOut.{FileOut}
+use Rattle.lego_base.specs.declared.sizes.TheConstants.{USER_END}
 use Rattle.lego_base.specs.Space.{Space, no_space, permits, bytes_at, number_of, with_space}
 use Rattle.elf_image.specs.Image.{Program}
 use Rattle.rv64_decode.specs.declared.Instr.{Instr}
@@ -13,13 +15,13 @@ use Rattle.rv64_step.specs.Meaning.{Asks, Ends, Loads, Stores, asks, next_pc, wi
 use Rattle.kernel_objects.specs.declared.process.Waiting.{Waiting}
 use Rattle.linux_model.specs.Limits.{EAGAIN, EINVAL, PROCESSES, SIGCHLD}
 use Rattle.linux_model.specs.State.{Kernel, Process}
-use Rattle.linux_model.specs.Processes.{process, fds_of}
+use Rattle.linux_model.specs.Processes.{process, fds_of, child_of}
 use Rattle.linux_model.specs.Effects.{Effect, Copies, Forks, Returns, Keeps, Dies, Drops, apply, applies, forked}
 use Rattle.linux_model.specs.Called.{Called, Gives, Becomes, Waits, Death}
 use Rattle.linux_model.specs.Descriptors.{arg, closings}
 use Rattle.linux_model.specs.ProcessCalls.{clone_row, dying}
-use Rattle.linux_model.specs.Boot.{boot_of}
-use Rattle.linux_model.specs.Loading.{start_space}
+use Rattle.linux_model.specs.Boot.{boot_of, booted_process}
+use Rattle.linux_model.specs.Loading.{start_space, break_of}
 use Rattle.linux_model.specs.Calls.{Call, Dup, Dup3, Unlinkat, Ftruncate, Openat, Close, Pipe2, Lseek, Read, Write, Readv, Writev, Pread64, Pwrite64, Exit, ExitGroup, SetTidAddress, SchedYield, GetPid, GetPpid, GetTid, BrkCall, Munmap, Clone, Execve, Mmap, Mprotect, Wait4, call_by, row, called, call_effects}
 use Rattle.linux_model.specs.Turns.{Schedule, flat, turn_of, acts, at_stop, run_of, whose, chosen, ready}
 use Rattle.linux_model.specs.Fits.{Fits, PidsRise}
@@ -28,8 +30,9 @@ use Rattle.linux_model.proofs.Booting.{booting}
 use Rattle.linux_model.proofs.Folds.{applies-append}
 use Rattle.linux_model.proofs.fits.Found.{found_pid}
 use Rattle.linux_model.proofs.fits.Runs.{every_fits}
-use Rattle.kernel_laws.specs.Laws.{NoneAbove, PidsAreFew, UnbornHaveNoSpace}
+use Rattle.kernel_laws.specs.Laws.{NoneAbove, BreaksInUserSpace, BreaksStayInUserSpace, PidsAreFew, UnbornHaveNoSpace}
 use Rattle.kernel_laws.proofs.Own.{AllOwn, Good, Kept, all_own_keep, own-append}
+use Rattle.kernel_laws.proofs.Breaks.{Within, breaks_at, breaks_more, break_found}
 use Rattle.kernel_laws.proofs.Looks.{closings_own}
 use Rattle.kernel_laws.proofs.Rows as rows
 
@@ -71,15 +74,16 @@ instructions_own (suc n) pid cpu space =
 record Follows (k l : Kernel) : Type 0 where
   few : l.last ≤ k.last + 1
   above : NoneAbove k.last k.space → NoneAbove l.last l.space
+  breaks : BreaksInUserSpace k.procs → BreaksInUserSpace l.procs
 
 kept_follows : (k l : Kernel) → Kept k l → Follows k l
-kept_follows k l kept = record { few = let same = kept.last in omega (arith, same); above = kept.above }
+kept_follows k l kept = record { few = let same = kept.last in omega (arith, same); above = kept.above; breaks = kept.breaks }
 
 kept_then : (k l m : Kernel) → Kept k l → Follows l m → Follows k m
-kept_then k l m kept next = record { few = let same = kept.last in let more = next.few in omega (arith, same, more); above = λ none. next.above (kept.above none) }
+kept_then k l m kept next = record { few = let same = kept.last in let more = next.few in omega (arith, same, more); above = λ none. next.above (kept.above none); breaks = λ b. next.breaks (kept.breaks b) }
 
 itself : (k : Kernel) → Follows k k
-itself k = record { few = omega arith; above = λ none. none }
+itself k = record { few = omega arith; above = λ none. none; breaks = λ b. b }
 
 dying_own : (pid status : ℕ) (k : Kernel) → AllOwn pid (dying pid status k)
 dying_own pid status k = own-append pid (closings (λ e. true) pid 0 (fds_of (process k.procs pid)) k) (Dies pid status ∷ Drops pid ∷ []) (closings_own (λ e. true) pid pid 0 (fds_of (process k.procs pid)) k) (tt, (refl, tt))
@@ -93,14 +97,16 @@ by_row p (Becomes effects cpu) k own low = own_follows (effects ++ Returns p.pid
 by_row p (Waits effects moved len) k own low = own_follows (effects ++ Keeps p.pid moved len ∷ []) p.pid k (own-append p.pid effects _ own (tt, tt)) low
 by_row p (Death effects status) k own low = own_follows (effects ++ dying p.pid status (applies effects k)) p.pid k (own-append p.pid effects _ own (dying_own p.pid status (applies effects k))) low
 
--- a child is the last one then
-born : (p : Process) (o : Option Process) (cpu after : Cpu) (k : Kernel) → o ≡ Some p
+-- a child is the last one then, with its parent's break
+born : (p : Process) (o : Option Process) (cpu after : Cpu) (k : Kernel) → process k.procs p.pid ≡ Some p → o ≡ Some p
     → Follows k (apply (Returns p.pid after) (forked o (k.last + 1) cpu (record k { space = with_space k.space (k.last + 1) (k.space p.pid) })))
-born p o cpu after k is =
+born p o cpu after k there is =
     subst (λ (o : Option Process). Follows k (apply (Returns p.pid after) (forked o (k.last + 1) cpu (record k { space = with_space k.space (k.last + 1) (k.space p.pid) })))) (sym is)
     (record {
       few = omega arith;
       above = λ none q high. cond-false _ (k.space p.pid) (k.space q) (ne_eqb q (k.last + 1) (λ same. omega (arith, high, same))) ∙ none q (omega (arith, high));
+      breaks = λ b. breaks_at (λ p. record p { cpu = after; waiting = None }) (λ p h. h) p.pid (k.procs ++ child_of p (k.last + 1) cpu ∷ [])
+          (breaks_more k.procs (child_of p (k.last + 1) cpu) (break_found k.procs p.pid p b there) b);
     })
 
 clone_keeps : (p : Process) (k : Kernel) (flags stack : ℕ) → process k.procs p.pid ≡ Some p → p.pid ≤ k.last → Follows k (applies (called p (clone_row p k flags stack) k) k)
@@ -109,7 +115,7 @@ clone_keeps p k flags stack there low = by (not (flags == SIGCHLD && stack == 0)
     by : (b c : Bool) → Follows k (applies (called p (cond b (Gives [] EINVAL) (cond c (Gives [] EAGAIN) (Gives (Copies p.pid (k.last + 1) ∷ Forks p.pid (k.last + 1) (with_reg p.cpu 10 0 (next_pc p.cpu)) ∷ []) (k.last + 1)))) k) k)
     by true c = by_row p (Gives [] EINVAL) k tt low
     by false true = by_row p (Gives [] EAGAIN) k tt low
-    by false false = born p (process k.procs p.pid) (with_reg p.cpu 10 0 (next_pc p.cpu)) (with_reg p.cpu 10 (k.last + 1) (next_pc p.cpu)) k there
+    by false false = born p (process k.procs p.pid) (with_reg p.cpu 10 0 (next_pc p.cpu)) (with_reg p.cpu 10 (k.last + 1) (next_pc p.cpu)) k there there
 
 row_keeps : (c : Option Call) (p : Process) (k : Kernel) → process k.procs p.pid ≡ Some p → p.pid ≤ k.last → Follows k (applies (called p (row c p k) k) k)
 row_keeps None p k there low = by_row p (row None p k) k tt low
@@ -211,3 +217,15 @@ few schedule program args env files input (suc n) =
     let before : k.last ≤ n + 1 = few schedule program args env files input n in
     let turn = (turn_keeps schedule (suc n) k (ready k) (every_fits schedule program args env files input n)).few in
     omega (arith, before, turn)
+
+booted_breaks : (program : Program) (args env : List (List ℕ)) (files : List FileOut) (input : List ℕ) → (break_of program).now ≤ USER_END → BreaksInUserSpace (boot_of program args env files input).procs
+booted_breaks program args env files input low =
+    subst (λ (k : Kernel). BreaksInUserSpace k.procs) (sym (booting program args env files input))
+    (All-cons Within (booted_process program args env) [] low (All-nil Within))
+
+pub breaks_stay : BreaksStayInUserSpace
+unfolding flat
+breaks_stay schedule program args env files input zero low = booted_breaks program args env files input low
+breaks_stay schedule program args env files input (suc n) low =
+    let k : Kernel = flat schedule (boot_of program args env files input) n in
+    (turn_keeps schedule (suc n) k (ready k) (every_fits schedule program args env files input n)).breaks (breaks_stay schedule program args env files input n low)

@@ -1,13 +1,15 @@
 -- What holds of every kernel that a run reaches, beside what linux_model says of it.
-use Rattle.std.specs.Prelude.{◌≡◌, ◌<◌, ◌≤◌, ◌+◌, ℕ, suc, true, List, Option, Some, None}
+use Rattle.std.specs.Prelude.{◌≡◌, ◌<◌, ◌≤◌, ◌+◌, ℕ, suc, true, List, All, Option, Some, None}
 use Rattle.lego_base.specs.declared.report.FileOut.{FileOut}
+use Rattle.lego_base.specs.declared.sizes.TheConstants.{USER_END}
 use Rattle.lego_base.specs.Space.{Space, no_space, with_space}
-use Rattle.elf_image.specs.Image.{Program}
+use Rattle.elf_image.specs.Image.{Program, program_of, first_fault}
 use Rattle.kernel_objects.specs.declared.process.Waiting.{Waiting}
 use Rattle.linux_model.specs.State.{Kernel, Process}
 use Rattle.linux_model.specs.Processes.{at_pid, process, is_live}
 use Rattle.linux_model.specs.Effects.{applies}
 use Rattle.linux_model.specs.Instructions.{Ran, many}
+use Rattle.linux_model.specs.Loading.{break_of}
 use Rattle.linux_model.specs.Boot.{boot_of}
 use Rattle.linux_model.specs.Turns.{Schedule, flat, run_of, whose, ready}
 use Rattle.linux_model.specs.Fits.{Fits, PidsRise}
@@ -28,6 +30,21 @@ abbrev pub PidsAreFew : Type 0
 PidsAreFew =
     (schedule : Schedule) (program : Program) (args env : List (List ℕ)) (files : List FileOut) (input : List ℕ) (n : ℕ)
     → (flat schedule (boot_of program args env files input) n).last ≤ n + 1
+
+-- each process's break is at most where user space ends
+abbrev pub BreaksInUserSpace : List Process → Type 0
+BreaksInUserSpace procs = All (λ p. p.brk.now ≤ USER_END) procs
+
+-- for a program whose own break is there
+abbrev pub BreaksStayInUserSpace : Type 0
+BreaksStayInUserSpace =
+    (schedule : Schedule) (program : Program) (args env : List (List ℕ)) (files : List FileOut) (input : List ℕ) (n : ℕ)
+    → (break_of program).now ≤ USER_END
+    → BreaksInUserSpace (flat schedule (boot_of program args env files input) n).procs
+
+-- which is so for the program of each image without fault
+abbrev pub GoodImagesBreakInUserSpace : Type 0
+GoodImagesBreakInUserSpace = (image : List ℕ) → first_fault image ≡ None → (break_of (program_of image)).now ≤ USER_END
 
 -- ---- within a turn
 
@@ -55,6 +72,7 @@ pub record MayCall (n : ℕ) (p : Process) (k : Kernel) : Type 0 where
   pub fits : Fits k
   pub none_above : NoneAbove k.last k.space
   pub few : k.last ≤ n + 1
+  pub breaks : BreaksInUserSpace k.procs
   pub there : process k.procs p.pid ≡ Some p
   pub lives : is_live p.state ≡ true
 
@@ -63,6 +81,7 @@ pub record MayCall (n : ℕ) (p : Process) (k : Kernel) : Type 0 where
 abbrev pub CallsMayComeWithinTurns : Type 0
 CallsMayComeWithinTurns =
     (schedule : Schedule) (program : Program) (args env : List (List ℕ)) (files : List FileOut) (input : List ℕ) (n : ℕ) (p : Process)
+    → (break_of program).now ≤ USER_END
     → let k = flat schedule (boot_of program args env files input) n in
     whose schedule (suc n) k.procs (ready k) ≡ Some p
     → MayCall n (record p { cpu = (ran_before schedule p p.waiting k).cpu }) (applies (ran_before schedule p p.waiting k).effects k)

@@ -1,7 +1,9 @@
-//! Laws of whole runs of the plain kernel that more than one machine rests on.
+//! Laws of the plain kernel's runs that more than one machine rests on. They are stated in `specs/Laws`: what holds of
+//! the kernel after every turn of every run, and what holds of it within a turn, where the instructions of a process are
+//! over and its call comes. Each function below has one of them as its contract.
 #![tactic(auto)]
 
-ghost use Rattle.kernel_laws.specs.Laws.{CallsMayComeWithinTurns, InstructionsChangeRegistersAndSpaceAlone, PidsAreFew, UnbornHaveNoSpace};
+ghost use Rattle.kernel_laws.specs.Laws.{BreaksStayInUserSpace, CallsMayComeWithinTurns, GoodImagesBreakInUserSpace, InstructionsChangeRegistersAndSpaceAlone, PidsAreFew, UnbornHaveNoSpace};
 
 /// After every turn of every run, no process that is yet to be born has a space.
 pub fn the_unborn_have_no_space()
@@ -11,6 +13,16 @@ pub fn the_unborn_have_no_space()
 /// After n turns at most n + 1 pids were given: each turn forks at most one child.
 pub fn pids_are_few()
     ensures { PidsAreFew }
+{}
+
+/// After every turn each process's break is in user space, where the program's own break is.
+pub fn breaks_stay_in_user_space()
+    ensures { BreaksStayInUserSpace }
+{}
+
+/// The break of the program of an image without fault is in user space.
+pub fn good_images_break_in_user_space()
+    ensures { GoodImagesBreakInUserSpace }
 {}
 
 /// Instructions of a process change its registers and its space, and nothing else of the kernel.
