@@ -6,3 +6,4 @@ pub mod Runs
 pub mod Placed
 pub mod Ready
 pub mod Within
+mod Examples
