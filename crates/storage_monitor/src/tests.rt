@@ -45,14 +45,38 @@ fn names_are_made_found_and_removed(rt: HostRuntime) -> Result<(), Fail> {
     let alloc = rt.alloc();
     let mut store = Store::new(alloc, 1)?;
     let name = Bytes::from_slice(alloc, b"b")?;
-    expect(&rt, &mut store, alloc, Body::NameMake { name }, "M1 NameIs { file: Some(FileNo(0)) }")?;
+    expect(
+        &rt,
+        &mut store,
+        alloc,
+        Body::NameMake { name },
+        "M1 NameIs { file: Some(FileNo(0)) }",
+    )?;
     let name = Bytes::from_slice(alloc, b"a")?;
-    expect(&rt, &mut store, alloc, Body::NameMake { name }, "M1 NameIs { file: Some(FileNo(1)) }")?;
+    expect(
+        &rt,
+        &mut store,
+        alloc,
+        Body::NameMake { name },
+        "M1 NameIs { file: Some(FileNo(1)) }",
+    )?;
     let name = Bytes::from_slice(alloc, b"b")?;
-    expect(&rt, &mut store, alloc, Body::NameGet { name }, "M1 NameIs { file: Some(FileNo(0)) }")?;
+    expect(
+        &rt,
+        &mut store,
+        alloc,
+        Body::NameGet { name },
+        "M1 NameIs { file: Some(FileNo(0)) }",
+    )?;
     let name = Bytes::from_slice(alloc, b"b")?;
     expect(&rt, &mut store, alloc, Body::NameCut { name }, "M1 Done")?;
-    expect(&rt, &mut store, alloc, Body::FileFree { file: FileNo(0) }, "M1 Done")?;
+    expect(
+        &rt,
+        &mut store,
+        alloc,
+        Body::FileFree { file: FileNo(0) },
+        "M1 Done",
+    )?;
     let all =
         "M1 Names { list: Seq { items: [NameEntry { name: Bytes { items: [97] }, file: FileNo(1) }] } }";
     expect(&rt, &mut store, alloc, Body::NameAll, all)?;
@@ -95,7 +119,13 @@ fn bytes_are_put_cut_and_given(rt: HostRuntime) -> Result<(), Fail> {
         "G Refused(StoreFull)",
     )?;
     assert!(rt; store.has_file(file));
-    expect(&rt, &mut store, alloc, Body::FileSize { file }, "M1 SizeIs { size: 5 }")?;
+    expect(
+        &rt,
+        &mut store,
+        alloc,
+        Body::FileSize { file },
+        "M1 SizeIs { size: 5 }",
+    )?;
     assert!(rt; store.has_file(file));
     let block =
         "M1 BlockIs { file: FileNo(0), block: 0, off: 3, len: 2, asker: Manager, bytes: Bytes { items: [0, 0, 0, 104, 105, 0, 0";
@@ -126,7 +156,13 @@ fn images_follow_their_messages(rt: HostRuntime) -> Result<(), Fail> {
         off: 1,
         bytes: Bytes::from_slice(alloc, b"x")?,
     })?;
-    expect(&rt, &mut store, alloc, Body::Backup { patches }, "M1 BackedUp")?;
+    expect(
+        &rt,
+        &mut store,
+        alloc,
+        Body::Backup { patches },
+        "M1 BackedUp",
+    )?;
     let mut regions = Seq::new(alloc);
     regions.push(RegionNo(1))?;
     let (parent, child, region) = (Pid(1), Pid(2), RegionNo(1));
@@ -141,7 +177,13 @@ fn images_follow_their_messages(rt: HostRuntime) -> Result<(), Fail> {
         },
         "M1 Done",
     )?;
-    expect(&rt, &mut store, alloc, Body::ImageFree { pid: parent }, "M1 Done")?;
+    expect(
+        &rt,
+        &mut store,
+        alloc,
+        Body::ImageFree { pid: parent },
+        "M1 Done",
+    )?;
     expect(
         &rt,
         &mut store,
@@ -154,7 +196,13 @@ fn images_follow_their_messages(rt: HostRuntime) -> Result<(), Fail> {
     )?;
     let image =
         "M1 Images { pages: Seq { items: [PageImage { pid: Pid(2), vpn: Vpn(513), bytes: Bytes { items: [0, 120, 0";
-    expect(&rt, &mut store, alloc, Body::PullImages { pid: child, region }, image)?;
+    expect(
+        &rt,
+        &mut store,
+        alloc,
+        Body::PullImages { pid: child, region },
+        image,
+    )?;
     Ok(())
 }
 
@@ -163,7 +211,13 @@ fn images_are_dropped_and_set(rt: HostRuntime) -> Result<(), Fail> {
     let alloc = rt.alloc();
     let mut store = Store::new(alloc, 0)?;
     let (pid, region, pages) = (Pid(1), RegionNo(0), Seq::new(alloc));
-    expect(&rt, &mut store, alloc, Body::ResetImages { pid, region, pages }, "M1 Done")?;
+    expect(
+        &rt,
+        &mut store,
+        alloc,
+        Body::ResetImages { pid, region, pages },
+        "M1 Done",
+    )?;
     let first = Vpn(0);
     expect(
         &rt,
