@@ -4,4 +4,5 @@ pub mod Unknown
 pub mod Entries
 pub mod Whole
 mod Rows
+pub mod Bounds
 pub mod Limits

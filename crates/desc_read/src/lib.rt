@@ -20,7 +20,7 @@ mod texts;
 mod unknown_fields;
 
 pub use fault::{DescFault, DescKind};
-pub use laws::strings_are_few;
+pub use laws::{plans_are_bounded, strings_are_few};
 pub use plan::{FileFrom, Plan};
 pub use plan_reader::read_plan;
 pub use texts::is_depot_name;

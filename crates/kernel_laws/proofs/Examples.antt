@@ -1,4 +1,5 @@
--- Worked turns, by computation: a turn may fork, a break may move, and a call comes with the registers of its turn's instructions.
+-- Worked turns, by computation: a turn may fork, a break may move, a file may get a name, and a call comes with the registers
+-- of its turn's instructions.
 use Rattle.std.specs.Prelude.{◌≡◌, ℕ, List, [], ◌∷◌, map, Option, Some, None, refl}
 use Rattle.area_list.specs.Runs.{put_runs}
 use Rattle.elf_image.specs.Image.{Program}
@@ -7,6 +8,7 @@ use Rattle.rv64_step.specs.Meaning.{reg}
 use Rattle.linux_model.specs.State.{Kernel, Process}
 use Rattle.linux_model.specs.Boot.{boot_of}
 use Rattle.linux_model.specs.Turns.{Schedule, flat, whose, ready}
+use Rattle.linux_model.specs.Named.{named_files}
 use Rattle.kernel_laws.specs.Laws.{ran_before}
 
 abbrev schedule : Schedule
@@ -38,6 +40,14 @@ a_turn_forks = refl
 a_break_moves : map (λ p. p.brk.now) (after moves 1).procs ≡ 0x12000 ∷ []
 unfolding decoded row_of table flat put_runs
 a_break_moves = refl
+
+-- openat(AT_FDCWD, "ab", O_CREAT | O_WRONLY), with the path after the code
+abbrev creates : List ℕ
+creates = 0x13 ∷ 0x05 ∷ 0xc0 ∷ 0xf9 ∷ 0xb7 ∷ 0x05 ∷ 0x01 ∷ 0x00 ∷ 0x93 ∷ 0x85 ∷ 0x85 ∷ 0x01 ∷ 0x13 ∷ 0x06 ∷ 0x10 ∷ 0x04 ∷ 0x93 ∷ 0x08 ∷ 0x80 ∷ 0x03 ∷ 0x73 ∷ 0x00 ∷ 0x00 ∷ 0x00 ∷ 97 ∷ 98 ∷ []
+
+a_file_gets_a_name : map (λ f. f.name) (named_files (after creates 1)) ≡ (97 ∷ 98 ∷ []) ∷ []
+unfolding decoded row_of table flat put_runs
+a_file_gets_a_name = refl
 
 -- the number of the call that the turn of a process comes to
 abbrev number : Kernel → Option Process → ℕ

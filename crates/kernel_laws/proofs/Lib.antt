@@ -1,5 +1,7 @@
 pub mod Breaks
 pub mod Own
+pub mod Names
+pub mod Naming
 pub mod Looks
 pub mod Rows
 pub mod Runs

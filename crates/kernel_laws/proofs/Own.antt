@@ -1,4 +1,4 @@
--- Effects that touch the space of one process alone, bear none, and set no break past user space.
+-- Effects that touch the space of one process alone, bear none, set no break past user space, and give no file a long name.
 use Rattle.std.proofs.Common.{◌≡◌, ℕ, ◌<◌, ◌≤◌, Bool, true, false, cond, ◌||◌, leb, refl, sym, ◌∙◌, ap, subst, List, [], ◌∷◌, ◌++◌, length, Option, Some, None, is_some, arith}
 use Rattle.std.proofs.lemmas.Bool.{ne_eqb, cond-false}
 use Rattle.lego_base.specs.Files.{has_name, named}
@@ -8,7 +8,7 @@ use Rattle.kernel_objects.specs.declared.descriptor.Description.{Description}
 use Rattle.kernel_objects.specs.declared.descriptor.Object.{Object}
 use Rattle.kernel_objects.specs.declared.descriptor.Object.TheVariants.{PipeRead, PipeWrite}
 use Rattle.kernel_objects.specs.Slots.{slot, freed, next_slot}
-use Rattle.linux_model.specs.Limits.{FILES}
+use Rattle.linux_model.specs.Limits.{FILES, NAME_BYTES}
 use Rattle.linux_model.specs.State.{Kernel, Process}
 use Rattle.linux_model.specs.Processes.{process, fds_of, at_pid, is_referred, has_reader, has_writer}
 use Rattle.linux_model.specs.Effects.{Effect, Writes, Maps, Protects, Unmaps, Fills, Copies, Drops, Starts, Forks, MakesFile, FreesFile, Opens, Shares, Closes, Goes, Returns, Keeps, Breaks, Dies, Reaps, apply, applies, desc_at, at_fd, object_ends, description_ends, let_go, closed}
@@ -28,6 +28,7 @@ Own pid (Copies parent child) = ⊥
 Own pid (Starts q cpu brk) = ⊥
 Own pid (Forks parent child cpu) = ⊥
 Own pid (Breaks q base now) = now ≤ USER_END
+Own pid (MakesFile name) = length name ≤ NAME_BYTES
 Own pid other = Unit {0}
 
 abbrev pub AllOwn : ℕ → List Effect → Type 0

@@ -1,4 +1,5 @@
--- What a call does touches the space of its process alone, row by row; clone(2) is the one that bears a process.
+-- What a call does touches the space of its process alone, row by row; clone(2) is the one that bears a process. Names that
+-- paths lead to are short.
 use Rattle.std.proofs.Common.{◌≡◌, ℕ, ◌≤◌, ◌+◌, ◌-◌, ◌*◌, ◌/◌, Bool, true, false, cond, not, eqb, ltb, leb, ◌==◌, ◌&&◌, ◌||◌, refl, List, [], ◌∷◌, ◌++◌, length, take, Option, Some, None, is_none, is_some, arith}
 use Rattle.std.proofs.lemmas.Bool.{ltb-false, or_parts}
 use Rattle.lego_base.specs.declared.ids.FileNo.{FileNo}
@@ -18,7 +19,7 @@ use Rattle.kernel_objects.specs.declared.descriptor.Object.TheVariants.{Input, O
 use Rattle.kernel_objects.specs.Slots.{slot}
 use Rattle.space_rules.specs.declared.TheConstants.{MAPPINGS_START, MOST_STRINGS, MOST_STRING_BYTES}
 use Rattle.kernel_objects.specs.declared.piece.Piece.{Piece}
-use Rattle.linux_model.specs.Limits.{EBADF, ECHILD, EFBIG, EINVAL, ENOENT, ENOEXEC, ENOMEM, ENOTDIR, ESPIPE, NAME_BYTES, MAPPING_BYTES, ANY, is_negative, AT_FDCWD, PATH_BYTES, VECTOR_PIECES, has, O_APPEND, EFAULT, PIPE_BUF}
+use Rattle.linux_model.specs.Limits.{EBADF, ECHILD, EFBIG, EINVAL, ENAMETOOLONG, ENOENT, ENOEXEC, ENOMEM, ENOTDIR, ESPIPE, NAME_BYTES, MAPPING_BYTES, ANY, is_negative, AT_FDCWD, PATH_BYTES, VECTOR_PIECES, has, O_APPEND, EFAULT, PIPE_BUF}
 use Rattle.linux_model.specs.State.{Kernel, Process}
 use Rattle.linux_model.specs.Processes.{Dead, dead_child, has_child, has_reader, has_writer}
 use Rattle.linux_model.specs.Effects.{Effect, Reads, Writes, LooksUp, AsksSize, AsksSpace, ReadsFile, WritesFile, CutsFile, Seeks, PutsPipe, TakesPipe, Takes, Puts, Drops, Maps, Protects, Unmaps, Breaks, CopyIn, CopyOut, pipe_bytes}
@@ -49,17 +50,19 @@ buffer p k need pieces last g =
     following_good p.pid (asks_pieces p.pid (k.space p.pid) need pieces) _ (checks p.pid (k.space p.pid) need pieces)
     (first_good p.pid ((not (are_good (k.space p.pid) need pieces), EFAULT) ∷ []) last g)
 
-walk : (pid : ℕ) (parts : List (List ℕ)) (k : Kernel) (f : Found → Called) → Good pid (f Root) → ((name : List ℕ) → Good pid (f (Named name (named k.names name)))) → Good pid (walked parts k f)
+walk : (pid : ℕ) (parts : List (List ℕ)) (k : Kernel) (f : Found → Called) → Good pid (f Root) → ((name : List ℕ) → length name ≤ NAME_BYTES → Good pid (f (Named name (named k.names name)))) → Good pid (walked parts k f)
 walk pid [] k f root name = root
-walk pid (part ∷ []) k f root name = choice pid _ (says _) _ tt (following_good pid (LooksUp part ∷ []) _ ((tt, tt)) (name part))
+walk pid (part ∷ []) k f root name =
+    unless_good pid (ltb NAME_BYTES (length part)) ENAMETOOLONG (following (LooksUp part ∷ []) (f (Named part (named k.names part))))
+    (λ short. following_good pid (LooksUp part ∷ []) _ ((tt, tt)) (name part (ltb-false NAME_BYTES (length part) short)))
 walk pid (part ∷ more ∷ parts) k f root name = choice pid (ltb NAME_BYTES (length {A = ℕ} part)) (says ENOENT) (following (LooksUp part ∷ []) (says (cond (is_some (named k.names part)) ENOTDIR ENOENT))) tt (following_good pid (LooksUp part ∷ []) (says (cond (is_some (named k.names part)) ENOTDIR ENOENT)) ((tt, tt)) tt)
 
-of_path : (end : TextEnd) (p : Process) (k : Kernel) (dir : ℕ) (bytes : List ℕ) (f : Found → Called) → Good p.pid (f Root) → ((name : List ℕ) → Good p.pid (f (Named name (named k.names name)))) → Good p.pid (of_text p k dir bytes end f)
+of_path : (end : TextEnd) (p : Process) (k : Kernel) (dir : ℕ) (bytes : List ℕ) (f : Found → Called) → Good p.pid (f Root) → ((name : List ℕ) → length name ≤ NAME_BYTES → Good p.pid (f (Named name (named k.names name)))) → Good p.pid (of_text p k dir bytes end f)
 of_path AtZero p k dir bytes f root name = first_good p.pid ((length {A = ℕ} bytes == 0, ENOENT) ∷ (is_relative bytes && not (dir == AT_FDCWD), cond (is_some (slot {X = FdEntry} p.fds dir)) ENOTDIR EBADF) ∷ []) _ (walk p.pid (without_root_parts (parts_of bytes)) k f root name)
 of_path Denied p k dir bytes f root name = tt
 of_path Long p k dir bytes f root name = tt
 
-pub path : (p : Process) (k : Kernel) (dir address : ℕ) (f : Found → Called) → Good p.pid (f Root) → ((name : List ℕ) → Good p.pid (f (Named name (named k.names name)))) → Good p.pid (at_path p k dir address f)
+pub path : (p : Process) (k : Kernel) (dir address : ℕ) (f : Found → Called) → Good p.pid (f Root) → ((name : List ℕ) → length name ≤ NAME_BYTES → Good p.pid (f (Named name (named k.names name)))) → Good p.pid (at_path p k dir address f)
 path p k dir address f root name =
     let t : Text = text_at p.pid (k.space p.pid) PATH_BYTES address in
     following_good p.pid t.reads (of_text p k dir t.bytes t.end f) (text p.pid (k.space p.pid) PATH_BYTES address) (of_path t.end p k dir t.bytes f root name)
@@ -171,7 +174,7 @@ module _ (p : Process) (k : Kernel) where
       (choice p.pid (eqb whence 2) _ _ (following_good p.pid (AsksSize file ∷ []) _ ((tt, tt)) (seek o (length (file_bytes k.files file)) off)) (seek o (cond {A = (denote.Struct.Field.u64-field).Value} (whence == 1) o.is.offset 0) off))))
 
   pub unlinkat : (dir address flags : ℕ) → Good p.pid (unlinkat_row p k dir address flags)
-  unlinkat dir address flags = first_good p.pid ((not (flags == 0), EINVAL) ∷ []) _ (path p k dir address (unlinked k) tt (λ name. by name (named k.names name)))
+  unlinkat dir address flags = first_good p.pid ((not (flags == 0), EINVAL) ∷ []) _ (path p k dir address (unlinked k) tt (λ name short. by name (named k.names name)))
     where
       by : (name : List ℕ) (file : Option FileNo) → Good p.pid (unlinked k (Named name file))
       by name None = tt
@@ -242,7 +245,7 @@ module _ (p : Process) (k : Kernel) where
       following_good p.pid (AsksSize file.0 ∷ ReadsFile file.0 0 (length (file_bytes k.files file.0)) ∷ []) _ ((tt, (tt, tt))) (execute args env (file_bytes k.files file.0))
 
   pub execve : (address args env : ℕ) → Good p.pid (execve_row p k address args env)
-  execve address args env = path p k AT_FDCWD address (λ found. with_strings (list_at p.pid (k.space p.pid) MOST_STRINGS args MOST_STRING_BYTES) (λ a. with_strings (list_at p.pid (k.space p.pid) a.left env a.room) (λ e. executes_found p k a.strings e.strings found))) (both Root (λ a e. tt)) (λ name. both (Named name (named k.names name)) (λ a e. found a e name (named k.names name)))
+  execve address args env = path p k AT_FDCWD address (λ found. with_strings (list_at p.pid (k.space p.pid) MOST_STRINGS args MOST_STRING_BYTES) (λ a. with_strings (list_at p.pid (k.space p.pid) a.left env a.room) (λ e. executes_found p k a.strings e.strings found))) (both Root (λ a e. tt)) (λ name short. both (Named name (named k.names name)) (λ a e. found a e name (named k.names name)))
     where
       both : (f : Found) → ((a e : List (List ℕ)) → Good p.pid (executes_found p k a e f))
           → Good p.pid (with_strings (list_at p.pid (k.space p.pid) MOST_STRINGS args MOST_STRING_BYTES) (λ a. with_strings (list_at p.pid (k.space p.pid) a.left env a.room) (λ e. executes_found p k a.strings e.strings f)))
@@ -285,18 +288,18 @@ module _ (p : Process) (k : Kernel) where
   opens true file fd flags = (tt, (tt, tt))
   opens false file fd flags = (tt, tt)
 
-  by_name : (fd flags : ℕ) (name : List ℕ) (file : Option FileNo) → Good p.pid (opens_name p k fd flags name file)
-  by_name fd flags name (Some file) = opens (has flags O_TRUNC && not (mode_of flags == 0)) file.0 fd flags
-  by_name fd flags name None =
-      following_good p.pid (MakesFile name ∷ []) (first ((leb FILES (length k.files), ENOSPC) ∷ []) (opens_file p fd k.next flags)) (tt, tt)
+  by_name : (fd flags : ℕ) (name : List ℕ) → length name ≤ NAME_BYTES → (file : Option FileNo) → Good p.pid (opens_name p k fd flags name file)
+  by_name fd flags name short (Some file) = opens (has flags O_TRUNC && not (mode_of flags == 0)) file.0 fd flags
+  by_name fd flags name short None =
+      following_good p.pid (MakesFile name ∷ []) (first ((leb FILES (length k.files), ENOSPC) ∷ []) (opens_file p fd k.next flags)) (short, tt)
       (first_good p.pid ((leb FILES (length k.files), ENOSPC) ∷ []) (opens_file p fd k.next flags) (opens (has flags O_TRUNC && not (mode_of flags == 0)) k.next fd flags))
 
   pub openat : (dir address flags : ℕ) → Good p.pid (openat_row p k dir address flags)
   openat dir address flags =
-      first_good p.pid ((mode_of flags == 3 || not (lib.Bits.bit_and flags OPEN_FLAGS == flags), EINVAL) ∷ []) _ (path p k dir address (opened_at p k flags) tt (λ name.
+      first_good p.pid ((mode_of flags == 3 || not (lib.Bits.bit_and flags OPEN_FLAGS == flags), EINVAL) ∷ []) _ (path p k dir address (opened_at p k flags) tt (λ name short.
       first_good p.pid ((is_some (named k.names name) && has flags O_CREAT && has flags O_EXCL, EEXIST) ∷ (is_none (named k.names name) && not (has flags O_CREAT), ENOENT) ∷ []) _
       (given_good p.pid (lowest_free p.fds 0) EMFILE (λ x. first ((ltb (descriptions_left k) 1, ENFILE) ∷ []) (opens_name p k x flags name (named k.names name)))
-      (λ fd. first_good p.pid ((ltb (descriptions_left k) 1, ENFILE) ∷ []) _ (by_name fd flags name (named k.names name))))))
+      (λ fd. first_good p.pid ((ltb (descriptions_left k) 1, ENFILE) ∷ []) _ (by_name fd flags name short (named k.names name))))))
 
   pub pipe2 : (address flags : ℕ) → Good p.pid (pipe2_row p k address flags)
   pipe2 address flags =

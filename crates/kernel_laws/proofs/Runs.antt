@@ -1,5 +1,6 @@
 -- After every turn of every run.
 use Rattle.std.proofs.Common.{◌≡◌, ℕ, zero, suc, ◌+◌, ◌≤◌, Bool, true, false, cond, not, eqb, leb, ◌==◌, ◌&&◌, refl, sym, ◌∙◌, ap, subst, List, [], ◌∷◌, ◌++◌, length, Option, Some, None, arith}
+use Rattle.std.specs.Prelude.{All}
 use Rattle.std.proofs.lemmas.Bool.{cond-false, eqb-true, ne_eqb}
 use Rattle.std.proofs.lemmas.List.Elements.{All-nil, All-cons}
 use Rattle.lego_base.specs.declared.report.FileOut.{FileOut}
@@ -13,14 +14,14 @@ use Rattle.rv64_step.specs.declared.cpu.StepEnd.{StepEnd}
 use Rattle.rv64_step.specs.declared.cpu.StepEnd.TheVariants.{Next, Call as AtCall, Dead as DeadBy}
 use Rattle.rv64_step.specs.Meaning.{Asks, Ends, Loads, Stores, asks, next_pc, with_reg}
 use Rattle.kernel_objects.specs.declared.process.Waiting.{Waiting}
-use Rattle.linux_model.specs.Limits.{EAGAIN, EINVAL, PROCESSES, SIGCHLD}
-use Rattle.linux_model.specs.State.{Kernel, Process}
+use Rattle.linux_model.specs.Limits.{EAGAIN, EINVAL, NAME_BYTES, PROCESSES, SIGCHLD}
+use Rattle.linux_model.specs.State.{Kernel, Process, unbooted}
 use Rattle.linux_model.specs.Processes.{process, fds_of, child_of}
 use Rattle.linux_model.specs.Effects.{Effect, Copies, Forks, Returns, Keeps, Dies, Drops, apply, applies, forked}
 use Rattle.linux_model.specs.Called.{Called, Gives, Becomes, Waits, Death}
 use Rattle.linux_model.specs.Descriptors.{arg, closings}
 use Rattle.linux_model.specs.ProcessCalls.{clone_row, dying}
-use Rattle.linux_model.specs.Boot.{boot_of, booted_process}
+use Rattle.linux_model.specs.Boot.{boot_of, booted_process, file_effects}
 use Rattle.linux_model.specs.Loading.{start_space, break_of}
 use Rattle.linux_model.specs.Calls.{Call, Dup, Dup3, Unlinkat, Ftruncate, Openat, Close, Pipe2, Lseek, Read, Write, Readv, Writev, Pread64, Pwrite64, Exit, ExitGroup, SetTidAddress, SchedYield, GetPid, GetPpid, GetTid, BrkCall, Munmap, Clone, Execve, Mmap, Mprotect, Wait4, call_by, row, called, call_effects}
 use Rattle.linux_model.specs.Turns.{Schedule, flat, turn_of, acts, at_stop, run_of, whose, chosen, ready}
@@ -30,10 +31,12 @@ use Rattle.linux_model.proofs.Booting.{booting}
 use Rattle.linux_model.proofs.Folds.{applies-append}
 use Rattle.linux_model.proofs.fits.Found.{found_pid}
 use Rattle.linux_model.proofs.fits.Runs.{every_fits}
-use Rattle.kernel_laws.specs.Laws.{NoneAbove, BreaksInUserSpace, BreaksStayInUserSpace, PidsAreFew, UnbornHaveNoSpace}
+use Rattle.kernel_laws.specs.Laws.{NoneAbove, BreaksInUserSpace, BreaksStayInUserSpace, NamedFilesCanBeArchived, PidsAreFew, UnbornHaveNoSpace}
 use Rattle.kernel_laws.proofs.Own.{AllOwn, Good, Kept, all_own_keep, own-append}
 use Rattle.kernel_laws.proofs.Breaks.{Within, breaks_at, breaks_more, break_found}
 use Rattle.kernel_laws.proofs.Looks.{closings_own}
+use Rattle.kernel_laws.proofs.Names.{Holds, archived}
+use Rattle.kernel_laws.proofs.Naming.{all_own_hold, files_own}
 use Rattle.kernel_laws.proofs.Rows as rows
 
 -- ---- instructions
@@ -75,21 +78,27 @@ record Follows (k l : Kernel) : Type 0 where
   few : l.last ≤ k.last + 1
   above : NoneAbove k.last k.space → NoneAbove l.last l.space
   breaks : BreaksInUserSpace k.procs → BreaksInUserSpace l.procs
+  names : Holds k → Holds l
 
-kept_follows : (k l : Kernel) → Kept k l → Follows k l
-kept_follows k l kept = record { few = let same = kept.last in omega (arith, same); above = kept.above; breaks = kept.breaks }
+kept_follows : (k l : Kernel) → Kept k l → (Holds k → Holds l) → Follows k l
+kept_follows k l kept names = record { few = let same = kept.last in omega (arith, same); above = kept.above; breaks = kept.breaks; names = names }
 
-kept_then : (k l m : Kernel) → Kept k l → Follows l m → Follows k m
-kept_then k l m kept next = record { few = let same = kept.last in let more = next.few in omega (arith, same, more); above = λ none. next.above (kept.above none); breaks = λ b. next.breaks (kept.breaks b) }
+kept_then : (k l m : Kernel) → Kept k l → (Holds k → Holds l) → Follows l m → Follows k m
+kept_then k l m kept names next = record {
+  few = let same = kept.last in let more = next.few in omega (arith, same, more);
+  above = λ none. next.above (kept.above none);
+  breaks = λ b. next.breaks (kept.breaks b);
+  names = λ h. next.names (names h);
+}
 
 itself : (k : Kernel) → Follows k k
-itself k = record { few = omega arith; above = λ none. none; breaks = λ b. b }
+itself k = record { few = omega arith; above = λ none. none; breaks = λ b. b; names = λ h. h }
 
 dying_own : (pid status : ℕ) (k : Kernel) → AllOwn pid (dying pid status k)
 dying_own pid status k = own-append pid (closings (λ e. true) pid 0 (fds_of (process k.procs pid)) k) (Dies pid status ∷ Drops pid ∷ []) (closings_own (λ e. true) pid pid 0 (fds_of (process k.procs pid)) k) (tt, (refl, tt))
 
 own_follows : (es : List Effect) (pid : ℕ) (k : Kernel) → AllOwn pid es → pid ≤ k.last → Follows k (applies es k)
-own_follows es pid k own low = kept_follows k (applies es k) (all_own_keep es pid k own low)
+own_follows es pid k own low = kept_follows k (applies es k) (all_own_keep es pid k own low) (all_own_hold es pid k own)
 
 by_row : (p : Process) (c : Called) (k : Kernel) → Good p.pid c → p.pid ≤ k.last → Follows k (applies (called p c k) k)
 by_row p (Gives effects value) k own low = own_follows (effects ++ Returns p.pid (with_reg p.cpu 10 value (next_pc p.cpu)) ∷ []) p.pid k (own-append p.pid effects _ own (tt, tt)) low
@@ -107,6 +116,7 @@ born p o cpu after k there is =
       above = λ none q high. cond-false _ (k.space p.pid) (k.space q) (ne_eqb q (k.last + 1) (λ same. omega (arith, high, same))) ∙ none q (omega (arith, high));
       breaks = λ b. breaks_at (λ p. record p { cpu = after; waiting = None }) (λ p h. h) p.pid (k.procs ++ child_of p (k.last + 1) cpu ∷ [])
           (breaks_more k.procs (child_of p (k.last + 1) cpu) (break_found k.procs p.pid p b there) b);
+      names = λ h. h;
     })
 
 clone_keeps : (p : Process) (k : Kernel) (flags stack : ℕ) → process k.procs p.pid ≡ Some p → p.pid ≤ k.last → Follows k (applies (called p (clone_row p k flags stack) k) k)
@@ -167,9 +177,10 @@ stop_keeps (DeadBy signal) pid k low = own_follows (dying pid signal k) pid k (d
 acts_keep : (schedule : Schedule) (p : Process) (w : Option Waiting) (k : Kernel) → process k.procs p.pid ≡ Some p → p.pid ≤ k.last → Follows k (applies (acts schedule p w k) k)
 acts_keep schedule p None k is low =
     let r : Ran = run_of schedule p k in
-    let kept = all_own_keep r.effects p.pid k (instructions_own schedule.quantum p.pid p.cpu (k.space p.pid)) low in
+    let own = instructions_own schedule.quantum p.pid p.cpu (k.space p.pid) in
+    let kept = all_own_keep r.effects p.pid k own low in
     let below : p.pid ≤ (applies r.effects k).last = let same = kept.last in omega (arith, same, low) in
-    subst (Follows k) (sym (applies-append r.effects (at_stop r.stop p.pid (applies r.effects k)) k)) (kept_then k (applies r.effects k) _ kept (stop_keeps r.stop p.pid (applies r.effects k) below))
+    subst (Follows k) (sym (applies-append r.effects (at_stop r.stop p.pid (applies r.effects k)) k)) (kept_then k (applies r.effects k) _ kept (all_own_hold r.effects p.pid k own) (stop_keeps r.stop p.pid (applies r.effects k) below))
 acts_keep schedule p (Some w) k is low = call_keeps (Some p) p.pid k is low
 
 -- pids are at most the last one
@@ -229,3 +240,19 @@ breaks_stay schedule program args env files input zero low = booted_breaks progr
 breaks_stay schedule program args env files input (suc n) low =
     let k : Kernel = flat schedule (boot_of program args env files input) n in
     (turn_keeps schedule (suc n) k (ready k) (every_fits schedule program args env files input n)).breaks (breaks_stay schedule program args env files input n low)
+
+booted_holds : (program : Program) (args env : List (List ℕ)) (files : List FileOut) (input : List ℕ) → All (λ file. length file.name ≤ NAME_BYTES) files → Holds (boot_of program args env files input)
+booted_holds program args env files input short =
+    let none : Holds (unbooted input) = record { apart = tt; short = tt; few = omega arith } in
+    subst Holds (sym (booting program args env files input)) (all_own_hold (file_effects 0 files) 1 (unbooted input) (files_own 1 0 files short) none)
+
+names_hold : (schedule : Schedule) (program : Program) (args env : List (List ℕ)) (files : List FileOut) (input : List ℕ) (n : ℕ) → All (λ file. length file.name ≤ NAME_BYTES) files → Holds (flat schedule (boot_of program args env files input) n)
+unfolding flat
+names_hold schedule program args env files input zero short = booted_holds program args env files input short
+names_hold schedule program args env files input (suc n) short =
+    let k : Kernel = flat schedule (boot_of program args env files input) n in
+    (turn_keeps schedule (suc n) k (ready k) (every_fits schedule program args env files input n)).names (names_hold schedule program args env files input n short)
+
+pub can_be_archived : NamedFilesCanBeArchived
+can_be_archived schedule program args env files input n short =
+    archived (flat schedule (boot_of program args env files input) n) (every_fits schedule program args env files input n).names_fit (names_hold schedule program args env files input n short)

@@ -1,10 +1,11 @@
 -- What holds of every kernel that a run reaches, beside what linux_model says of it.
-use Rattle.std.specs.Prelude.{◌≡◌, ◌<◌, ◌≤◌, ◌+◌, ℕ, suc, true, List, All, Option, Some, None}
+use Rattle.std.specs.Prelude.{◌≡◌, ◌≢◌, ◌<◌, ◌≤◌, ◌+◌, ℕ, suc, true, List, length, All, AllPairs, Option, Some, None}
 use Rattle.lego_base.specs.declared.report.FileOut.{FileOut}
 use Rattle.lego_base.specs.declared.sizes.TheConstants.{USER_END}
 use Rattle.lego_base.specs.Space.{Space, no_space, with_space}
 use Rattle.elf_image.specs.Image.{Program, program_of, first_fault}
 use Rattle.kernel_objects.specs.declared.process.Waiting.{Waiting}
+use Rattle.linux_model.specs.Limits.{FILES, NAME_BYTES}
 use Rattle.linux_model.specs.State.{Kernel, Process}
 use Rattle.linux_model.specs.Processes.{at_pid, process, is_live}
 use Rattle.linux_model.specs.Effects.{applies}
@@ -12,6 +13,7 @@ use Rattle.linux_model.specs.Instructions.{Ran, many}
 use Rattle.linux_model.specs.Loading.{break_of}
 use Rattle.linux_model.specs.Boot.{boot_of}
 use Rattle.linux_model.specs.Turns.{Schedule, flat, run_of, whose, ready}
+use Rattle.linux_model.specs.Named.{named_files}
 use Rattle.linux_model.specs.Fits.{Fits, PidsRise}
 
 -- ---- after every turn
@@ -85,3 +87,19 @@ CallsMayComeWithinTurns =
     → let k = flat schedule (boot_of program args env files input) n in
     whose schedule (suc n) k.procs (ready k) ≡ Some p
     → MayCall n (record p { cpu = (ran_before schedule p p.waiting k).cpu }) (applies (ran_before schedule p p.waiting k).effects k)
+
+-- ---- what a run leaves
+
+-- files that an archive can hold: no two have the same name, and their names and their number are small
+pub record CanBeArchived (files : List FileOut) : Type 0 where
+  pub apart : AllPairs (λ file other. file.name ≢ other.name) files
+  pub short : All (λ file. length file.name ≤ NAME_BYTES) files
+  pub few : length files ≤ FILES
+
+-- The files with a name are such, if those of the start have short names: a name is given only where no file has it, and a
+-- file is made only where there is room for one.
+abbrev pub NamedFilesCanBeArchived : Type 0
+NamedFilesCanBeArchived =
+    (schedule : Schedule) (program : Program) (args env : List (List ℕ)) (files : List FileOut) (input : List ℕ) (n : ℕ)
+    → All (λ file. length file.name ≤ NAME_BYTES) files
+    → CanBeArchived (named_files (flat schedule (boot_of program args env files input) n))

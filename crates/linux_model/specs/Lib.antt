@@ -14,6 +14,7 @@ pub mod ProcessCalls
 pub mod Calls
 pub mod Turns
 pub mod Boot
+pub mod Named
 pub mod Held
 pub mod Managed
 pub mod Fits
