@@ -1,0 +1,4 @@
+pub mod Breaks
+pub mod Ending
+pub mod InTurn
+pub mod Unknown
