@@ -1,5 +1,5 @@
 -- A group of calls in its turn: those before it left all as it was.
-use Rattle.std.proofs.Common.{◌≡◌, ℕ, Bool, true, false, sym, ◌∙◌, ap, subst, List, [], Option, Some, None, IfSome, ⊥}
+use Rattle.std.proofs.Common.{◌≡◌, ℕ, Bool, true, false, sym, ◌∙◌, ap, subst, List, Option, Some, None, IfSome, is_some}
 use Rattle.rv64_step.specs.Meaning.{reg}
 use Rattle.linux_model.specs.State.{Kernel, Process}
 use Rattle.linux_model.specs.Processes.{process}
@@ -24,9 +24,16 @@ pub can_die : (pid : ℕ) (man : Managed) (held : Held) → CanCall pid man held
 can_die pid man held can = record { alive = can.alive; fit = can.fit }
 
 -- a call that ended is one of the group
-pub is_of : (is_mine : ℕ → Bool) (o : Option Process) → IfSome o (λ p. true ≡ is_mine (reg p.cpu 17)) → IfSome o (λ p. is_mine (reg p.cpu 17) ≡ true)
-is_of is_mine (Some p) h = sym h
-is_of is_mine None h = h
+pub is_of : (is_mine : ℕ → Bool) (o : Option Process) (found : Option CallEnd) (end : CallEnd) → found ≡ Some end → IfSome o (λ p. is_some found ≡ is_mine (reg p.cpu 17)) → IfSome o (λ p. is_mine (reg p.cpu 17) ≡ true)
+is_of is_mine (Some p) found end is h = sym h ∙ ap is_some is
+is_of is_mine None found end is h = h
+
+-- a call that did nothing before a death leaves who can die
+pub dies_found : {X : Type 0} (held : X → Held) (old new : X) (man man' : Managed) (pid : ℕ) → CanCall pid man (held old) → (found : Option CallEnd) (end : CallEnd) → found ≡ Some end → IfSome found (λ e. IfDies e ((new ≡ old) × (man' ≡ man))) → IfDies end (CanDie man' (held new) pid)
+dies_found held old new man man' pid can found end is h =
+    dies_as end ((new ≡ old) × (man' ≡ man)) (CanDie man' (held new) pid)
+    (λ same. subst (λ (m : Managed). CanDie m (held new) pid) (sym same.1) (subst (λ a. CanDie man (held a) pid) (sym same.0) (can_die pid man (held old) can)))
+    (subst (λ (o : Option CallEnd). IfSome o (λ e. IfDies e ((new ≡ old) × (man' ≡ man)))) is h)
 
 module _ {X : Type 0} (held : X → Held) (does stops : X → X → List Effect → Type 0) (old mid new : X) (man now man' : Managed) (pid : ℕ) (same : mid ≡ old) (same_man : now ≡ man) where
   -- who could call at first can now
@@ -34,12 +41,13 @@ module _ {X : Type 0} (held : X → Held) (does stops : X → X → List Effect 
   can_still can = subst (λ (m : Managed). CanCall pid m (held mid)) (sym same_man) (subst (λ (a : X). CanCall pid man (held a)) (sym same) can)
 
   -- a call ended, and stopped, as from what was at first
-  pub ends_in_turn : (end : CallEnd) (k : Kernel)
-      → IfSome (process now.procs pid) (λ p. Ran does mid new now man' (row (call_by p) p (kernel_of now (held mid) k)) (ended end))
+  pub ends_in_turn : (found : Option CallEnd) (end : CallEnd) (k : Kernel) → found ≡ Some end
+      → IfSome (process now.procs pid) (λ p. IfSome found (λ e. Ran does mid new now man' (row (call_by p) p (kernel_of now (held mid) k)) (ended e)))
       → IfSome (process man.procs pid) (λ p. Ran does old new man man' (row (call_by p) p (kernel_of man (held old) k)) (ended end))
-  ends_in_turn end k h =
+  ends_in_turn found end k is h =
       subst (λ (a : X). IfSome (process man.procs pid) (λ p. Ran does a new man man' (row (call_by p) p (kernel_of man (held a) k)) (ended end))) same
-      (subst (λ (m : Managed). IfSome (process m.procs pid) (λ p. Ran does mid new m man' (row (call_by p) p (kernel_of m (held mid) k)) (ended end))) same_man h)
+      (subst (λ (m : Managed). IfSome (process m.procs pid) (λ p. Ran does mid new m man' (row (call_by p) p (kernel_of m (held mid) k)) (ended end))) same_man
+      (subst (λ (o : Option CallEnd). IfSome (process now.procs pid) (λ p. IfSome o (λ e. Ran does mid new now man' (row (call_by p) p (kernel_of now (held mid) k)) (ended e)))) is h))
 
   both_hold : (is_mine : ℕ → Bool) (o : Option Process) (Q : Process → Type 0) → IfSome o (λ p. is_mine (reg p.cpu 17) ≡ true) → IfSome o (λ p. is_mine (reg p.cpu 17) ≡ true → Q p) → IfSome o Q
   both_hold is_mine (Some p) Q mine h = h mine

@@ -1,4 +1,3 @@
 pub mod Breaks
 pub mod Ending
 pub mod InTurn
-pub mod Unknown
