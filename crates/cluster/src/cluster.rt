@@ -63,6 +63,11 @@ impl Cluster {
         self.halt
     }
 
+    // Where memory comes from.
+    pub(crate) fn alloc(&self) -> Global {
+        self.engine.alloc
+    }
+
     /// Keeps that memory ran out, where no halt is kept.
     pub fn out_of_memory(&mut self)
         ensures { self.new ≡ record self.old { halt = or_out_of_memory self.old.halt } }

@@ -6,15 +6,17 @@
 #![tactic(auto)]
 
 mod asks;
+mod blocks;
 mod cluster;
 mod files;
 mod lines;
+mod lists;
 mod names;
 mod reads;
 mod regions;
 
 pub use cluster::Cluster;
-pub use reads::LineRead;
+pub use reads::{LineIn, LineRead};
 
 #[cfg(test)]
 mod tests;
