@@ -8,3 +8,4 @@ pub mod Following
 pub mod Progress
 pub mod Blockwise
 pub mod Touching
+pub mod Regionwise

@@ -7,3 +7,4 @@ pub mod Calls
 pub mod Sequences
 pub mod LineCalls
 pub mod Blocks
+pub mod Askings

@@ -5,6 +5,7 @@
 //! come. A call is a way from track to track (`Went`); where it halts, the last event is the cause (`Halted`).
 #![tactic(auto)]
 
+mod askings;
 mod asks;
 mod blocks;
 mod cluster;
