@@ -12,7 +12,7 @@ use Rattle.lego_msg.specs.Plain.{Plain, effect, with_files}
 use Rattle.lego_msg.specs.declared.body.Body.{Body}
 use Rattle.lego_msg.specs.declared.operation.Operation.{Operation}
 use Rattle.lego_msg.specs.declared.operation.Operation.TheVariants.{ReadsFile, WritesFile}
-use Rattle.cluster.specs.Blocks.{all_bytes, blocks_met, bytes_told, reads_in, reads_of, room_at, with_written, writes_in, writes_of}
+use Rattle.cluster.specs.Blocks.{all_bytes, blocks_met, bytes_told, reads_in, reads_of, with_written, writes_in, writes_of}
 use Rattle.cluster.specs.Sequences.{AreReplies, FitAll, FitEach, ReadNoLine, effects}
 use Rattle.lego_msg.specs.Track.{Caches}
 use Rattle.lego_msg.specs.declared.place.Place.{Place}
@@ -130,9 +130,12 @@ reads_granted zero file at n m owners f is most there = tt
 reads_granted (suc blocks) file at zero m owners f is most there = absurd (omega (arith, is))
 reads_granted (suc blocks) file at (suc n) m owners f is most there =
     let low : at / 4096 < 4096 = omega (arith, most) in
-    let room : at % 4096 + min (suc n) (4096 - at % 4096) ≤ 4096 = omega arith in
-    (tt, (there, (low, room)), λ pid vpn. refl,
-    reads_granted blocks file (at + (4096 - at % 4096)) (suc n - (4096 - at % 4096)) m owners f (next_met at (suc n) blocks is) (omega (arith, most)) there)
+    let room : at % 4096 + min (suc n) (4096 - at % 4096) ≤ 4096 = omega arith in (
+      tt,
+      (there, (low, room)),
+      λ pid vpn. refl,
+      reads_granted blocks file (at + (4096 - at % 4096)) (suc n - (4096 - at % 4096)) m owners f (next_met at (suc n) blocks is) (omega (arith, most)) there,
+    )
 
 pub reads_fit : (file : FileNo) (at n m : ℕ) (owners : List HomeEntry) (f : Plain) → at + n ≤ 16777216 → is_file f.files.files file.0 ≡ true → FitAll m owners f (reads_of file at n)
 reads_fit file at n m owners f most there = reads_granted (blocks_met at n) file at n m owners f refl most there
@@ -168,12 +171,15 @@ writes_granted (suc blocks) file at (byte ∷ bytes) m owners f is most there =
     let size : length (drop (4096 - at % 4096) (byte ∷ bytes)) ≡ length (byte ∷ bytes) - (4096 - at % 4096) = length-drop (4096 - at % 4096) (byte ∷ bytes) in
     let low : at / 4096 < 4096 = omega (arith, most) in
     let few : length (take (4096 - at % 4096) (byte ∷ bytes)) ≤ 4096 - at % 4096 = short (4096 - at % 4096) (byte ∷ bytes) in
-    let fits : at % 4096 + length (take (4096 - at % 4096) (byte ∷ bytes)) ≤ 4096 = omega (arith, few) in
-    (tt, (there, (low, fits)), λ pid vpn. refl,
-    writes_granted blocks file (at + (4096 - at % 4096)) (drop (4096 - at % 4096) (byte ∷ bytes)) m owners _
-    (next_met at (length (byte ∷ bytes)) blocks is ∙ ap (blocks_met (at + (4096 - at % 4096))) (sym size))
-    (omega (arith, most, size))
-    (stays_there f.files.files file.0 file.0 _ ∙ there))
+    let fits : at % 4096 + length (take (4096 - at % 4096) (byte ∷ bytes)) ≤ 4096 = omega (arith, few) in (
+      tt,
+      (there, (low, fits)),
+      λ pid vpn. refl,
+      writes_granted blocks file (at + (4096 - at % 4096)) (drop (4096 - at % 4096) (byte ∷ bytes)) m owners _
+          (next_met at (length (byte ∷ bytes)) blocks is ∙ ap (blocks_met (at + (4096 - at % 4096))) (sym size))
+          (omega (arith, most, size))
+          (stays_there f.files.files file.0 file.0 _ ∙ there),
+    )
   where
     short : (n : ℕ) (xs : List ℕ) → length (take n xs) ≤ n
     short zero xs = omega arith

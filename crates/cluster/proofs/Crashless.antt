@@ -1,5 +1,5 @@
 -- Where no crash of the turn is left, none is left after operations.
-use Rattle.std.proofs.Common.{◌≡◌, ◌∙◌, ◌&&◌, ◌||◌, ◌==◌, [], ◌∷◌, ℕ, Bool, List, None, Option, Some, ap, drop, false, refl, subst, sym, true}
+use Rattle.std.proofs.Common.{◌≡◌, ◌∙◌, ◌&&◌, ◌||◌, [], ◌∷◌, ℕ, Bool, List, None, Option, Some, drop, false, refl, subst, sym, true}
 use Rattle.healing_laws.proofs.HealingEnds.{not_due}
 use Rattle.lego_base.specs.declared.shape.CrashAt.{CrashAt}
 use Rattle.lego_msg.proofs.Flow.{comes_arrived, completed_same, send_sent}

@@ -8,8 +8,8 @@ use Rattle.lego_msg.specs.Completions.{owners_after}
 use Rattle.lego_msg.specs.Marks.{Call, Mark}
 use Rattle.lego_msg.specs.Plain.{Plain, effect}
 use Rattle.lego_msg.specs.Replies.{IsReply}
-use Rattle.lego_msg.specs.Track.{Track, is_crash_left, memory_count}
-use Rattle.lego_msg.specs.Went.{Halted, Went}
+use Rattle.lego_msg.specs.Track.{is_crash_left, memory_count}
+use Rattle.lego_msg.specs.Went.{Went}
 use Rattle.lego_msg.specs.declared.body.Body.{Body}
 use Rattle.lego_msg.specs.declared.body.Body.TheVariants.{Done}
 use Rattle.lego_msg.specs.declared.event.Event.{Event}

@@ -1,19 +1,15 @@
 -- How far a call of several operations is, and how it ends from there.
 use Rattle.std.proofs.Common.{◌≡◌, ◌∙◌, [], ◌∷◌, ◌++◌, ℕ, Err, List, None, Ok, Option, Result, Some, ap, refl, subst, sym}
 use Rattle.lego_base.specs.declared.stops.Halt.{Halt}
-use Rattle.lego_msg.specs.Plain.{Plain}
-use Rattle.lego_msg.specs.Track.{Caches}
-use Rattle.lego_msg.specs.Went.{Went}
 use Rattle.lego_msg.specs.declared.body.Body.{Body}
-use Rattle.lego_msg.specs.declared.body.Body.TheVariants.{Done}
 use Rattle.lego_msg.specs.declared.event.Event.{Event}
 use Rattle.lego_msg.specs.declared.operation.Operation.{Operation}
 use Rattle.lego_msg.specs.declared.place.Place.{Place}
 use Rattle.protocol_engine.specs.Beyond.{Beyond}
 use Rattle.cluster.specs.Calls.{Calls, served}
-use Rattle.cluster.specs.Sequences.{AllHalts, AreGrantedAt, CallsAll, FitEach, MayAskAll, ReadsNoLine, ServesAll, all_asked_at, all_served, effects}
+use Rattle.cluster.specs.Sequences.{CallsAll, MayAskAll, ReadsNoLine, ServesAll, all_served, effects}
 use Rattle.cluster.specs.Standing.{MayAsk}
-use Rattle.cluster.specs.Whole.{Whole, or_out_of_memory, track_at}
+use Rattle.cluster.specs.Whole.{Whole, or_out_of_memory}
 use Rattle.cluster.proofs.Calling.{error_of, not_kept}
 use Rattle.cluster.proofs.Following.{all_served-append, brings_none, caches_back, granted_back, halts_then, lacks_then, none_serves, one_granted, one_halts, one_serves, serves_then}
 use Rattle.lego_base.specs.declared.stops.Halt.TheVariants as halt

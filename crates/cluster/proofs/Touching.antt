@@ -4,11 +4,8 @@ use Rattle.lego_base.specs.declared.ids.LineNo.{LineNo}
 use Rattle.lego_base.specs.declared.ids.MemId.{MemId}
 use Rattle.lego_base.specs.declared.ids.Pid.{Pid}
 use Rattle.lego_base.specs.declared.stops.Halt.{Halt}
-use Rattle.lego_msg.specs.Places.{is_issuer}
-use Rattle.lego_msg.specs.Plain.{Plain}
 use Rattle.lego_msg.specs.declared.body.Body.TheVariants.{Done, OwnerIs, Refused}
 use Rattle.lego_msg.specs.declared.event.Event.{Event}
-use Rattle.lego_msg.specs.declared.operation.Operation.{Operation}
 use Rattle.lego_msg.specs.declared.operation.Operation.TheVariants.{Reads}
 use Rattle.lego_msg.specs.declared.place.Place.{Place}
 use Rattle.lego_msg.specs.declared.place.Place.TheVariants.{Manager, Memory, Processor, Storage}
@@ -16,11 +13,9 @@ use Rattle.protocol_engine.specs.Beyond.{Beyond}
 use Rattle.cluster.specs.Answers.{line_body}
 use Rattle.cluster.specs.Calls.{Calls, served}
 use Rattle.cluster.specs.LineCalls.{finds_line, line_asked, line_beyond, read_in}
-use Rattle.cluster.specs.Sequences.{CallsAll, ServesAll}
-use Rattle.cluster.specs.Standing.{StandsFor}
+use Rattle.cluster.specs.Sequences.{CallsAll}
 use Rattle.cluster.specs.Whole.{Whole}
 use Rattle.cluster.specs.declared.reads.LineIn.{LineIn}
-use Rattle.cluster.specs.declared.reads.LineRead.{LineRead}
 use Rattle.cluster.proofs.Progress.{SoFar, ends_here, first_ends, first_halts, then_ends, then_halts}
 use Rattle.lego_msg.specs.declared.place.Why.TheVariants as why
 

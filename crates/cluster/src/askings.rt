@@ -20,12 +20,7 @@ impl Cluster {
     ghost use Rattle.cluster.specs.Standing.{IsAtRest, StandsFor};
 
     /// The areas of a process: those of each of its regions that has an owner, asked for one by one in rising order.
-    pub fn areas<W: Watch>(
-        &mut self,
-        by: Place,
-        pid: Pid,
-        watch: &mut W,
-    ) -> Result<AreaRuns, Halt>
+    pub fn areas<W: Watch>(&mut self, by: Place, pid: Pid, watch: &mut W) -> Result<AreaRuns, Halt>
         requires issuer { is_issuer by ≡ true }
         requires rests { self.old.halt ≡ None → IsAtRest self.old }
         ensures call { let asks = asks_of (those home_key (is_of pid.0) self.old.table.owners) in

@@ -1,4 +1,4 @@
-use Rattle.std.proofs.Common.{rules, ◌≡◌, ◌+◌, ◌-◌, ◌/◌, ◌%◌, ◌<◌, ◌++◌, [], ◌∷◌, min, arith}
+use Rattle.std.proofs.Common.{rules, ◌≡◌, ◌-◌, ◌/◌, ◌%◌, ◌<◌, ◌++◌, [], ◌∷◌, min, arith}
 use Rattle.lego_msg.specs.declared.operation.Operation.TheVariants.{ReadsFile}
 use Rattle.cluster.specs.Blocks.{reads_of}
 use Rattle.cluster.proofs.Blockwise.{reads_on}

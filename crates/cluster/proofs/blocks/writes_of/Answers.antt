@@ -1,4 +1,4 @@
-use Rattle.std.proofs.Common.{rules, ◌≡◌, ◌∙◌, ℕ, List, ap, ◌+◌, ◌-◌, ◌/◌, ◌%◌, ◌<◌, ◌++◌, [], ◌∷◌, drop, length, min, take, arith}
+use Rattle.std.proofs.Common.{rules, ◌≡◌, ◌∙◌, ℕ, List, ap, ◌-◌, ◌/◌, ◌%◌, ◌<◌, ◌++◌, [], ◌∷◌, drop, length, min, take, arith}
 use Rattle.std.proofs.lemmas.List.{length-drop}
 use Rattle.lego_msg.specs.declared.operation.Operation.TheVariants.{WritesFile}
 use Rattle.cluster.specs.Blocks.{writes_of}

@@ -1,4 +1,4 @@
-use Rattle.std.proofs.Common.{◌≡◌, ◌∙◌, [], List, ap, refl, subst, sym}
+use Rattle.std.proofs.Common.{◌∙◌, [], List, ap, refl, subst, sym}
 use Rattle.protocol_engine.specs.Beyond.{nothing_cached}
 use Rattle.lego_msg.specs.Track.{memory_count}
 use Rattle.lego_msg.specs.declared.body.Body.{Body}

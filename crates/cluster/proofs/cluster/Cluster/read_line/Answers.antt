@@ -1,9 +1,6 @@
-use Rattle.std.proofs.Common.{◌≡◌, ◌∙◌, ◌/◌, None, Option, Some, refl, sym}
-use Rattle.lego_base.specs.declared.ids.MemId.{MemId}
+use Rattle.std.proofs.Common.{◌∙◌, ◌/◌, refl, sym}
 use Rattle.lego_msg.specs.Maps.{owner_of}
-use Rattle.lego_msg.specs.Plain.{Plain}
 use Rattle.cluster.specs.LineCalls.{finds_line}
-use Rattle.cluster.specs.Standing.{StandsFor}
 use Rattle.cluster.proofs.Granting.{granted_plain}
 use Rattle.cluster.proofs.Touching.{find_halts, found_none, read_halts, read_none, read_some}
 use Rattle.cluster.proofs.cluster.Cluster.read_line.Goals as goal
