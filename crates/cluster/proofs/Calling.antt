@@ -25,7 +25,7 @@ use Rattle.lego_msg.specs.declared.place.Why.TheVariants as why
 abbrev pub as_it_is : Body → Body
 as_it_is body = body
 
-abbrev error_of : {X : Type 0} → Halt → Result X Halt → Halt
+abbrev pub error_of : {X : Type 0} → Halt → Result X Halt → Halt
 error_of else_ (Err h) = h
 error_of else_ (Ok x) = else_
 

@@ -3,3 +3,9 @@ pub mod Granting
 pub mod Asking
 pub mod Calling
 pub mod Turns
+pub mod Crashless
+pub mod Following
+pub mod Progress
+pub mod Blockwise
+pub mod Touching
+pub mod Regionwise

@@ -4,3 +4,7 @@ pub mod Performing
 pub mod Standing
 pub mod Answers
 pub mod Calls
+pub mod Sequences
+pub mod LineCalls
+pub mod Blocks
+pub mod Askings

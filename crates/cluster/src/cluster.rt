@@ -1,6 +1,8 @@
 //! The cluster as its users hold it.
 
 ghost use Rattle.std.specs.Prelude.{◌≡◌, ◌<◌, ◌≤◌, [], Bool, IfErr, IfOk, List, None, OnErr, OnOk, Some, false, length, true};
+ghost use Rattle.lego_base.specs.Keys.{is_of, those};
+ghost use Rattle.lego_msg.specs.Maps.{home_key};
 ghost use Rattle.lego_msg.specs.Marks.{Mark};
 ghost use Rattle.lego_msg.specs.declared.event.Event.TheVariants.{Turn};
 ghost use Rattle.lego_msg.specs.Files.{no_files};
@@ -11,7 +13,7 @@ ghost use Rattle.placement.specs.Owners.{no_owners};
 ghost use Rattle.cluster.specs.Whole.{or_out_of_memory, track_at};
 ghost use Rattle.protocol_engine.specs.Beyond.{beginning};
 
-use lego_base::{Halt, NoMemory, Pid, Shape};
+use lego_base::{Halt, HomeEntry, NoMemory, Pid, Seq, Shape};
 use lego_msg::{Operation, Place, Watch};
 use protocol_engine::{Engine, Running, boot};
 use std::alloc::Global;
@@ -61,6 +63,18 @@ impl Cluster {
         ensures { result ≡ self.now.halt }
     {
         self.halt
+    }
+
+    // Where memory comes from.
+    pub(crate) fn alloc(&self) -> Global {
+        self.engine.alloc
+    }
+
+    // The owners of a process's regions, in rising order.
+    pub(crate) fn entries(&self, alloc: Global, pid: Pid) -> Result<Seq<HomeEntry>, NoMemory>
+        ensures { IfOk result (λ entries. entries ≡ those home_key (is_of pid.0) self.now.table.owners) }
+    {
+        self.engine.table.of_process(alloc, pid)
     }
 
     /// Keeps that memory ran out, where no halt is kept.

@@ -5,16 +5,19 @@
 //! come. A call is a way from track to track (`Went`); where it halts, the last event is the cause (`Halted`).
 #![tactic(auto)]
 
+mod askings;
 mod asks;
+mod blocks;
 mod cluster;
 mod files;
 mod lines;
+mod lists;
 mod names;
 mod reads;
 mod regions;
 
 pub use cluster::Cluster;
-pub use reads::LineRead;
+pub use reads::{LineIn, LineRead};
 
 #[cfg(test)]
 mod tests;

@@ -1,7 +1,7 @@
 //! Entries of a child and of a memory.
 
 ghost use Rattle.std.specs.Prelude.{◌≡◌, ◌<◌, length, IfOk};
-ghost use Rattle.lego_base.specs.Keys.{Rises, put_all};
+ghost use Rattle.lego_base.specs.Keys.{Rises, is_of, put_all, those};
 ghost use Rattle.lego_msg.specs.Maps.{home_key, owned_by};
 ghost use Rattle.placement.specs.Owners.{entries_of, handed_on, mapped, spaces_in};
 
@@ -91,6 +91,23 @@ pub(crate) fn spaces_of(
         }
     }
     Ok(spaces)
+}
+
+/// The entries of a process, in their order.
+pub(crate) fn process_entries(
+    owners: &[HomeEntry],
+    alloc: Global,
+    pid: Pid,
+) -> Result<Seq<HomeEntry>, NoMemory>
+    ensures { IfOk result (λ entries. entries ≡ those home_key (is_of pid.0) owners.now) }
+{
+    let mut entries = Seq::new(alloc);
+    for entry in owners {
+        if entry.pid.0 == pid.0 {
+            entries.push(*entry)?;
+        }
+    }
+    Ok(entries)
 }
 
 fn for_child(entry: HomeEntry, child: Pid) -> HomeEntry

@@ -1,11 +1,11 @@
 //! The table of owners.
 
 ghost use Rattle.std.specs.Prelude.{◌≡◌, ◌<◌, length, IfOk, OnOk, OnErr};
-ghost use Rattle.lego_base.specs.Keys.{put_all};
+ghost use Rattle.lego_base.specs.Keys.{is_of, put_all, those};
 ghost use Rattle.lego_msg.specs.Maps.{home_key, owner_of, owned_by as owned_entries};
 ghost use Rattle.placement.specs.Owners.{assigned, dropped, entries_of, in_turn as turn_of, inherited, mapped, next_owner, no_owners, placed_all, spaces_in};
 
-use crate::entries::{inherited_in, spaces_of, unowned_in, with_all};
+use crate::entries::{inherited_in, process_entries, spaces_of, unowned_in, with_all};
 use keyed_list::{get, put, remove_process};
 use lego_base::{HomeEntry, MemId, NoMemory, Pid, RegionNo, Seq, Spaces};
 use std::alloc::Global;
@@ -130,6 +130,13 @@ impl Table {
         ensures { IfOk result (λ spaces. spaces ≡ spaces_in (owned_entries memory.0 self.now.owners)) }
     {
         spaces_of(self.owners.as_slice(), alloc, memory)
+    }
+
+    /// The entries of a process's regions, in rising order.
+    pub fn of_process(&self, alloc: Global, pid: Pid) -> Result<Seq<HomeEntry>, NoMemory>
+        ensures { IfOk result (λ entries. entries ≡ those home_key (is_of pid.0) self.now.owners) }
+    {
+        process_entries(self.owners.as_slice(), alloc, pid)
     }
 
     /// A process's regions have owners no more.
