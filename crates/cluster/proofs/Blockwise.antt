@@ -125,19 +125,20 @@ reads_cached (suc blocks) file at n by caches = (tt, reads_cached blocks file (a
 pub reads_caches : (file : FileNo) (at n : ℕ) (by : Place) (caches : Caches) → FitEach caches by (reads_of file at n)
 reads_caches file at n by caches = reads_cached (blocks_met at n) file at n by caches
 
-reads_granted : (blocks : ℕ) (file : FileNo) (at n m : ℕ) (owners : List HomeEntry) (f : Plain) → blocks ≡ blocks_met at n → at + n ≤ 16777216 → is_file f.files.files file.0 ≡ true → FitAll m owners f (reads_in blocks file at n)
+reads_granted : (blocks : ℕ) (file : FileNo) (at n m : ℕ) (owners : List HomeEntry) (f : Plain) → blocks ≡ blocks_met at n → at + n ≤ 16777216 → is_file f.files.files file.0 ≡ true → FitAll m owners f [] (reads_in blocks file at n)
 reads_granted zero file at n m owners f is most there = tt
 reads_granted (suc blocks) file at zero m owners f is most there = absurd (omega (arith, is))
 reads_granted (suc blocks) file at (suc n) m owners f is most there =
     let low : at / 4096 < 4096 = omega (arith, most) in
     let room : at % 4096 + min (suc n) (4096 - at % 4096) ≤ 4096 = omega arith in (
       tt,
+      tt,
       (there, (low, room)),
-      λ pid vpn. refl,
+      tt,
       reads_granted blocks file (at + (4096 - at % 4096)) (suc n - (4096 - at % 4096)) m owners f (next_met at (suc n) blocks is) (omega (arith, most)) there,
     )
 
-pub reads_fit : (file : FileNo) (at n m : ℕ) (owners : List HomeEntry) (f : Plain) → at + n ≤ 16777216 → is_file f.files.files file.0 ≡ true → FitAll m owners f (reads_of file at n)
+pub reads_fit : (file : FileNo) (at n m : ℕ) (owners : List HomeEntry) (f : Plain) → at + n ≤ 16777216 → is_file f.files.files file.0 ≡ true → FitAll m owners f [] (reads_of file at n)
 reads_fit file at n m owners f most there = reads_granted (blocks_met at n) file at n m owners f refl most there
 
 writes_no_line : (blocks : ℕ) (file : FileNo) (at : ℕ) (bytes : List ℕ) → ReadNoLine (writes_in blocks file at bytes)
@@ -163,7 +164,7 @@ stays_there : (files : List File) (file number : ℕ) (xs : List ℕ) → is_fil
 stays_there [] file number xs = refl
 stays_there (f ∷ files) file number xs = λ i. eqb (same_number (eqb f.file file) f xs i) number || stays_there files file number xs i
 
-writes_granted : (blocks : ℕ) (file : FileNo) (at : ℕ) (bytes : List ℕ) (m : ℕ) (owners : List HomeEntry) (f : Plain) → blocks ≡ blocks_met at (length bytes) → at + length bytes ≤ 16777216 → is_file f.files.files file.0 ≡ true → FitAll m owners f (writes_in blocks file at bytes)
+writes_granted : (blocks : ℕ) (file : FileNo) (at : ℕ) (bytes : List ℕ) (m : ℕ) (owners : List HomeEntry) (f : Plain) → blocks ≡ blocks_met at (length bytes) → at + length bytes ≤ 16777216 → is_file f.files.files file.0 ≡ true → FitAll m owners f [] (writes_in blocks file at bytes)
 writes_granted zero file at bytes m owners f is most there = tt
 writes_granted (suc blocks) file at [] m owners f is most there = absurd (omega (arith, is))
 writes_granted (suc blocks) file at (byte ∷ bytes) m owners f is most there =
@@ -173,8 +174,9 @@ writes_granted (suc blocks) file at (byte ∷ bytes) m owners f is most there =
     let few : length (take (4096 - at % 4096) (byte ∷ bytes)) ≤ 4096 - at % 4096 = short (4096 - at % 4096) (byte ∷ bytes) in
     let fits : at % 4096 + length (take (4096 - at % 4096) (byte ∷ bytes)) ≤ 4096 = omega (arith, few) in (
       tt,
+      tt,
       (there, (low, fits)),
-      λ pid vpn. refl,
+      tt,
       writes_granted blocks file (at + (4096 - at % 4096)) (drop (4096 - at % 4096) (byte ∷ bytes)) m owners _
           (next_met at (length (byte ∷ bytes)) blocks is ∙ ap (blocks_met (at + (4096 - at % 4096))) (sym size))
           (omega (arith, most, size))
@@ -186,7 +188,7 @@ writes_granted (suc blocks) file at (byte ∷ bytes) m owners f is most there =
     short (suc n) [] = omega arith
     short (suc n) (x ∷ xs) = let less = short n xs in omega (arith, less)
 
-pub writes_fit : (file : FileNo) (at : ℕ) (bytes : List ℕ) (m : ℕ) (owners : List HomeEntry) (f : Plain) → at + length bytes ≤ 16777216 → is_file f.files.files file.0 ≡ true → FitAll m owners f (writes_of file at bytes)
+pub writes_fit : (file : FileNo) (at : ℕ) (bytes : List ℕ) (m : ℕ) (owners : List HomeEntry) (f : Plain) → at + length bytes ≤ 16777216 → is_file f.files.files file.0 ≡ true → FitAll m owners f [] (writes_of file at bytes)
 writes_fit file at bytes m owners f most there = writes_granted (blocks_met at (length bytes)) file at bytes m owners f refl most there
 
 -- ---- what reads say

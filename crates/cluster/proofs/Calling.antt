@@ -33,6 +33,7 @@ module _ {W : Type 0} (told : W → Option (List Event)) (faults : W → ℕ) (w
   pub call_halts : {X : Type 0} (body : X → Body) (h : Halt) → Calls told faults w w' c d by operation as_it_is (Err h) → Calls told faults w w' c d by operation body (Err h)
   call_halts body h calls = record {
     serves = tt;
+    turns = tt;
     halted = calls.halted;
     kept = λ k is. (ap (λ (r : Result Body Halt). Err (error_of h r)) (calls.kept k is).0, (calls.kept k is).1, (calls.kept k is).2);
     keeps = calls.keeps;
@@ -42,6 +43,7 @@ module _ {W : Type 0} (told : W → Option (List Event)) (faults : W → ℕ) (w
   pub call_ends : {X : Type 0} (body : X → Body) (x : X) (told_ : Body) → told_ ≡ body x → Calls told faults w w' c d by operation as_it_is (Ok told_) → Calls told faults w w' c d by operation body (Ok x)
   call_ends body x told_ is calls = record {
     serves = subst (Serves told faults w w' c d by operation) is calls.serves;
+    turns = calls.turns;
     halted = tt;
     kept = λ k at. absurd (no_error told_ k (calls.kept k at).0);
     keeps = tt;
@@ -58,9 +60,11 @@ module _ {W : Type 0} (told : W → Option (List Event)) (faults : W → ℕ) (w
       went = λ g late may. subst (λ (b : Beyond). Went told faults w w' (asked_at c by operation g late) (track_at d b)) (same g) (calls.serves.went g late may);
       stands = calls.serves.stands;
       reply = λ f at. says f;
+      logs = calls.serves.logs;
       shape = calls.serves.shape;
       owners = calls.serves.owners;
     };
+    turns = calls.turns;
     halted = tt;
     kept = λ k at. absurd (no_error told_ k (calls.kept k at).0);
     keeps = tt;

@@ -2,6 +2,7 @@ pub mod Wholes
 pub mod Granting
 pub mod Asking
 pub mod Calling
+pub mod Idle
 pub mod Turns
 pub mod Crashless
 pub mod Following
@@ -9,3 +10,11 @@ pub mod Progress
 pub mod Blockwise
 pub mod Touching
 pub mod Regionwise
+pub mod Dropping
+pub mod Parts
+pub mod Newcomers
+pub mod Settings
+pub mod Telling
+pub mod Cloning
+pub mod Cloned
+mod Rows

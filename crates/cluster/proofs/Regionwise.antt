@@ -37,9 +37,9 @@ owned_met address n owners (e ∷ entries) all = picked_owned (meets address n e
 
 -- ---- what is owed of the askings, and what they say
 
-pub asks_fit : (m : ℕ) (owners : List HomeEntry) (f : Plain) (entries : List HomeEntry) → AreOwned owners entries → FitAll m owners f (asks_of entries)
+pub asks_fit : (m : ℕ) (owners : List HomeEntry) (f : Plain) (entries : List HomeEntry) → AreOwned owners entries → FitAll m owners f [] (asks_of entries)
 asks_fit m owners f [] all = tt
-asks_fit m owners f (e ∷ entries) all = (tt, all.0, λ pid vpn. refl, asks_fit m owners f entries all.1)
+asks_fit m owners f (e ∷ entries) all = (tt, tt, all.0, tt, asks_fit m owners f entries all.1)
 
 pub asks_lines : (entries : List HomeEntry) → ReadNoLine (asks_of entries)
 asks_lines [] = tt

@@ -3,8 +3,12 @@ pub mod InOrder
 pub mod Performing
 pub mod Standing
 pub mod Answers
+pub mod Logs
 pub mod Calls
 pub mod Sequences
 pub mod LineCalls
 pub mod Blocks
 pub mod Askings
+pub mod Dropping
+pub mod Mapping
+pub mod Copying

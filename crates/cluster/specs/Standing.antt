@@ -1,6 +1,9 @@
 -- A cluster at rest: the plain map that it stands for, and what the caller of an operation owes there.
-use Rattle.std.specs.Prelude.{[]}
+use Rattle.std.specs.Prelude.{◌≡◌, [], List}
+use Rattle.lego_base.specs.Keys.{put_all}
+use Rattle.lego_base.specs.declared.records.HomeEntry.{HomeEntry}
 use Rattle.lego_msg.specs.Granted.{Granted}
+use Rattle.lego_msg.specs.Maps.{home_key}
 use Rattle.lego_msg.specs.Plain.{Plain}
 use Rattle.lego_msg.specs.Sends.{FitsCaches}
 use Rattle.lego_msg.specs.Track.{Caches}
@@ -26,14 +29,32 @@ IsAtRest w = (f : Plain) × StandsFor w f
 abbrev pub IsAtRestWith : Whole → (Plain → Type 0) → Type 0
 IsAtRestWith w P = (f : Plain) × StandsFor w f × P f
 
--- an operation that brings no owners is granted there
-pub record IsGrantedAt (w : Whole) (f : Plain) (by : Place) (operation : Operation) : Type 0 where
+-- AN OPERATION is granted there, with the owners of regions that come with it
+pub record IsGrantedWith (new : List HomeEntry) (w : Whole) (f : Plain) (by : Place) (operation : Operation) : Type 0 where
   pub stands : StandsFor w f
-  pub granted : Granted (track_at w (alone f)) by operation w.table.owners
+  pub granted : Granted (track_at w (alone f)) by operation (put_all home_key new w.table.owners)
 
 -- What its caller owes: that it is granted, and that its processor's cache is as it must be.
-pub record MayAsk (w : Whole) (by : Place) (operation : Operation) : Type 0 where
+pub record MayAskWith (new : List HomeEntry) (w : Whole) (by : Place) (operation : Operation) : Type 0 where
   pub plain : Plain
   pub caches : Caches
-  pub granted : IsGrantedAt w plain by operation
+  pub granted : IsGrantedWith new w plain by operation
   pub fits : FitsCaches caches by operation
+
+-- most bring none
+abbrev pub IsGrantedAt : Whole → Plain → Place → Operation → Type 0
+IsGrantedAt w f by operation = IsGrantedWith [] w f by operation
+
+abbrev pub MayAsk : Whole → Place → Operation → Type 0
+MayAsk w by operation = MayAskWith [] w by operation
+
+-- THE OWNERS that come with an operation are in the table already; `c` is the cluster without them.
+pub record Brings (new : List HomeEntry) (c w : Whole) : Type 0 where
+  pub same : w ≡ record c { table = w.table }
+  pub owned : put_all home_key new c.table.owners ≡ w.table.owners
+
+pub record MayBring (w : Whole) (by : Place) (operation : Operation) : Type 0 where
+  pub new : List HomeEntry
+  pub before : Whole
+  pub brings : Brings new before w
+  pub may : MayAskWith new before by operation

@@ -52,6 +52,12 @@ track_at w g = record {
   due = g.due;
 }
 
+-- whose turn it is to own a region is the same
+pub record SameTurns (old new : Owned) : Type 0 where
+  pub memories : new.memories ≡ old.memories
+  pub placement : new.placement ≡ old.placement
+  pub given : new.given ≡ old.given
+
 -- with an event to be shown next
 abbrev pub shown_at : Whole → Event → Beyond → Track
 shown_at w e g = record (track_at w g) { due = Show e ∷ g.due }

@@ -8,13 +8,18 @@
 mod askings;
 mod asks;
 mod blocks;
+mod changes;
 mod cluster;
+mod copies;
 mod files;
 mod lines;
 mod lists;
+mod mappings;
 mod names;
 mod reads;
 mod regions;
+mod runs;
+mod spaces;
 
 pub use cluster::Cluster;
 pub use reads::{LineIn, LineRead};

@@ -1,14 +1,17 @@
 //! Several operations, one after the other.
 
-ghost use Rattle.std.specs.Prelude.{◌≡◌, IfOk, None};
+ghost use Rattle.std.specs.Prelude.{◌≡◌, IfOk, List, None};
+ghost use Rattle.lego_base.specs.declared.records.HomeEntry.{HomeEntry};
 ghost use Rattle.lego_msg.specs.Plain.{Plain};
+ghost use Rattle.cluster.specs.Whole.{Whole};
 
 use crate::Cluster;
 use lego_base::Halt;
 use lego_msg::{Body, Operation, Place, Watch};
 
 impl Cluster {
-    ghost use Rattle.cluster.specs.Sequences.{AreGrantedAt, AreReplies, CallsAll, MayAskAll, ReadNoLine, all_served};
+    ghost use Rattle.cluster.specs.Sequences.{AreGrantedAt, AreReplies, CallsAll, CallsEach, MayAskAll, MayAskEach, MayBringAll, ReadNoLine, ReadsNoLine, all_served, brought, served_each};
+    ghost use Rattle.cluster.specs.Standing.{Brings};
 
     // Performs operations that read no line and that their caller may ask for, in order, and gives their answers.
     pub(crate) fn ask_all<W: Watch>(
@@ -40,5 +43,28 @@ impl Cluster {
             }
         }
         Ok(answers)
+    }
+    // Performs an operation with which owners of regions come, which are in the table already, and then others.
+    pub(crate) fn bring_all<W: Watch>(
+        &mut self,
+        by: Place,
+        first: Operation,
+        rest: Vec<Operation>,
+        watch: &mut W,
+    ) -> Result<(), Halt>
+        requires none { self.old.halt ≡ None }
+        requires may { MayBringAll self.old by first rest.items }
+        requires line { ReadsNoLine first }
+        requires lines { ReadNoLine rest.items }
+        ensures { (new : List HomeEntry) (c : Whole) → Brings new c self.old → MayAskEach c by (brought new first rest.items) → let asks = brought new first rest.items in
+            CallsEach self.old.table W.told W.faults watch.old watch.new c self.new by asks (λ done. served_each by asks) result }
+    {
+        match self.ask_with(by, first, watch) {
+            Err(halt) => return Err(halt),
+            Ok(_) => match self.ask_all(by, rest, watch) {
+                Err(halt) => return Err(halt),
+                Ok(_) => return Ok(()),
+            },
+        }
     }
 }

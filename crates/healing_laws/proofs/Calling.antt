@@ -15,6 +15,7 @@ use Rattle.lego_msg.specs.Granted.{Granted, IsClear, IsThere, OpFits}
 use Rattle.lego_msg.specs.Legal.{Legal, May}
 use Rattle.lego_msg.specs.Maps.{home_key, owner_of}
 use Rattle.lego_msg.specs.Marks.{Call, Mark, Order, Show}
+use Rattle.lego_msg.specs.Operations.{is_write}
 use Rattle.lego_msg.specs.Places.{memory}
 use Rattle.lego_msg.specs.Plain.{Plain, effect}
 use Rattle.lego_msg.specs.Run.{after, run}
@@ -30,6 +31,7 @@ use Rattle.lego_msg.specs.declared.healing.Move.{Move}
 use Rattle.lego_msg.specs.declared.message.Message.{Message}
 use Rattle.lego_msg.specs.declared.operation.Open.{Open}
 use Rattle.lego_msg.specs.declared.operation.Operation.{Operation}
+use Rattle.lego_msg.specs.declared.operation.Operation.TheVariants.{Drains}
 use Rattle.lego_msg.specs.declared.place.Place.{Place}
 use Rattle.lego_msg.specs.declared.place.Place.TheVariants.{Manager, Memory, Processor, Storage}
 use Rattle.lego_base.specs.Keys.{Rises}
@@ -38,6 +40,10 @@ use Rattle.lego_rest.specs.Answers.{is_writing}
 use Rattle.lego_rest.specs.Rest.{AtRest}
 use Rattle.rest_laws.proofs.Bare.{calm_on}
 use Rattle.rest_laws.specs.GoingOn.{BeginsGranted, IsDue, LedBack, owners_with}
+use Rattle.rest_laws.specs.Logs.{IsEmptyAt}
+use Rattle.healing_laws.proofs.Dry.{drains-empty-there}
+use Rattle.healing_laws.proofs.Emptying.{empty-logs-stay-there, empty_after}
+use Rattle.healing_laws.specs.Emptying.{CallsDrainLogs, CallsKeepEmptyLogs}
 use Rattle.healing_laws.proofs.Events.{every-event-keeps, in_relation, over_rests}
 use Rattle.healing_laws.proofs.LeadsBack.{comes_same, completed_due, leads-back, operation_in}
 use Rattle.healing_laws.proofs.Playing.{every-track-is-playable}
@@ -325,20 +331,39 @@ module _ (t : Track) (o : Order) (rest : List Mark) (granted : Granted t o.by o.
       by (Complete op) may then_ = inl (alike_waits now (Complete op) may then_ waits (completed_on now op.0 waits now.healing))
       by (Out stream bytes) may then_ = absurd (no_show now waits (Out stream bytes) may.1)
 
+  -- what holds once it is complete, by what holds until it begins and what its way gives from there on
+  module _ (K P : Track → Type 0) (keeps : (now : Track) (e : Event) → May now e → Waits now → K now → K (after now e)) (gives : (now : Track) (m : Message) (events : List Event) → IsDue now o rest → Waits now → K now → Legal now (Send m ∷ events) → (run now (Send m ∷ events)).due ≡ rest → IsOver (run now (Send m ∷ events)) → P (run now (Send m ∷ events))) where
+    holds_after : (now : Track) (events : List Event) → Legal now events → (run now events).due ≡ rest → IsOver (run now events) → Waits now → K now → P (run now events)
+    holds_after now [] legal last over waits held = absurd (longer (Call o) rest (sym waits.due ∙ last))
+    holds_after now (e ∷ events) legal last over waits held = by (stays_or_begins now e legal.0 waits) (λ next. holds_after (after now e) events legal.1 last over next (keeps now e legal.0 waits held))
+      where
+        by : Waits (after now e) ⊎ ((m : Message) × (e ≡ Send m) × AtRest now) → (Waits (after now e) → P (run now (e ∷ events))) → P (run now (e ∷ events))
+        by (inl next) on = on next
+        by (inr begun) on =
+            let m = begun.0 in
+            let is : e ≡ Send m = begun.1 in
+            subst (λ (x : Event). P (run now (x ∷ events))) (sym is)
+            (gives now m events (record { rests = begun.2; due = waits.due; granted = granted_now now waits }) waits held
+            (subst (λ (x : Event). Legal now (x ∷ events)) is legal)
+            (subst (λ (x : Event). (run now (x ∷ events)).due ≡ rest) is last)
+            (subst (λ (x : Event). IsOver (run now (x ∷ events))) is over))
+
   led_on : (now : Track) (events : List Event) → Legal now events → (run now events).due ≡ rest → IsOver (run now events) → Waits now → LedBack t o rest (run now events)
-  led_on now [] legal last over waits = absurd (longer (Call o) rest (sym waits.due ∙ last))
-  led_on now (e ∷ events) legal last over waits = by (stays_or_begins now e legal.0 waits) (led_on (after now e) events legal.1 last over)
-    where
-      by : Waits (after now e) ⊎ ((m : Message) × (e ≡ Send m) × AtRest now) → (Waits (after now e) → LedBack t o rest (run now (e ∷ events))) → LedBack t o rest (run now (e ∷ events))
-      by (inl next) on = on next
-      by (inr begun) on =
-          let m = begun.0 in
-          let is : e ≡ Send m = begun.1 in
-          led_from now (run now (e ∷ events)) waits (subst (λ (x : Event). LedBack now o rest (run now (x ∷ events))) (sym is)
-          (leads-back now o rest m events (record { rests = begun.2; due = waits.due; granted = granted_now now waits })
-          (subst (λ (x : Event). Legal now (x ∷ events)) is legal)
-          (subst (λ (x : Event). (run now (x ∷ events)).due ≡ rest) is last)
-          (subst (λ (x : Event). IsOver (run now (x ∷ events))) is over)))
+  led_on now events legal last over waits = holds_after (λ x. Unit {0}) (LedBack t o rest) (λ x e may at held. tt)
+      (λ x m more is at held legal last over. led_from x (run x (Send m ∷ more)) at (leads-back x o rest m more is legal last over))
+      now events legal last over waits tt
+
+  -- logs that are empty stay so, where it doesn't write; and a drain empties its own
+  dry_on : (k : ℕ) → is_write o.operation ≡ false → (now : Track) (events : List Event) → Legal now events → (run now events).due ≡ rest → IsOver (run now events) → Waits now → IsEmptyAt now k → IsEmptyAt (run now events) k
+  dry_on k none now events legal last over waits empty = holds_after (λ x. IsEmptyAt x k) (λ x. IsEmptyAt x k)
+      (λ x e may at held. empty_after x k at.middle (ap is_writing at.closed) held e may)
+      (λ x m more is at held legal last over. empty-logs-stay-there x o rest m more k is legal last none held)
+      now events legal last over waits empty
+
+  drained_on : (d : MemId) → o.operation ≡ Drains d → (now : Track) (events : List Event) → Legal now events → (run now events).due ≡ rest → IsOver (run now events) → Waits now → IsEmptyAt (run now events) d.0
+  drained_on d drains now events legal last over waits = holds_after (λ x. Unit {0}) (λ x. IsEmptyAt x d.0) (λ x e may at held. tt)
+      (λ x m more is at held legal last over. drains-empty-there x o rest m more d is legal last over drains)
+      now events legal last over waits tt
 
 due_waits : (t : Track) (o : Order) (rest : List Mark) (is : IsDue t o rest) (none : CallsNone rest) → Waits t o rest is.granted none t
 due_waits t o rest is none = record {
@@ -356,6 +381,12 @@ calls_are_granted t o rest events is none legal = all_granted t o rest is.grante
 
 pub calls_lead_back : (t : Track) (o : Order) (rest : List Mark) (events : List Event) → IsDue t o rest → CallsNone rest → Legal t events → (run t events).due ≡ rest → IsOver (run t events) → LedBack t o rest (run t events)
 calls_lead_back t o rest events is none legal last over = led_on t o rest is.granted none t events legal last over (due_waits t o rest is none)
+
+pub calls-keep-empty-logs : CallsKeepEmptyLogs
+calls-keep-empty-logs t o rest events k is none legal last over unwritten empty = dry_on t o rest is.granted none k unwritten t events legal last over (due_waits t o rest is none) empty
+
+pub calls-drain-logs : CallsDrainLogs
+calls-drain-logs t o rest events d is none legal last over drains = drained_on t o rest is.granted none d drains t events legal last over (due_waits t o rest is none)
 
 pub calls-are-playable : CallsArePlayable
 calls-are-playable t o rest events is none legal = every-track-is-playable t events is.rests legal (calls_are_granted t o rest events is none legal)

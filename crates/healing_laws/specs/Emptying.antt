@@ -12,6 +12,7 @@ use Rattle.lego_msg.specs.declared.message.Message.{Message}
 use Rattle.lego_msg.specs.declared.operation.Operation.TheVariants.{Drains}
 use Rattle.rest_laws.specs.GoingOn.{IsDue}
 use Rattle.rest_laws.specs.Logs.{IsEmptyAt}
+use Rattle.healing_laws.specs.Playing.{CallsNone}
 use Rattle.healing_laws.specs.Running.{IsOver}
 
 -- An operation that doesn't write leaves empty logs empty, at every moment on its way and once it is complete.
@@ -25,3 +26,14 @@ abbrev pub DrainsEmptyThere : Type 0
 DrainsEmptyThere = (t : Track) (o : Order) (rest : List Mark) (m : Message) (events : List Event) (d : MemId) →
     IsDue t o rest → Legal t (Send m ∷ events) → (run t (Send m ∷ events)).due ≡ rest → IsOver (run t (Send m ∷ events)) →
     o.operation ≡ Drains d → IsEmptyAt (run t (Send m ∷ events)) d.0
+
+-- CALLS. So it is of an operation that is due, from its mark on: also where memories crash and are healed before it begins.
+abbrev pub CallsKeepEmptyLogs : Type 0
+CallsKeepEmptyLogs = (t : Track) (o : Order) (rest : List Mark) (events : List Event) (k : ℕ) →
+    IsDue t o rest → CallsNone rest → Legal t events → (run t events).due ≡ rest → IsOver (run t events) → is_write o.operation ≡ false →
+    IsEmptyAt t k → IsEmptyAt (run t events) k
+
+abbrev pub CallsDrainLogs : Type 0
+CallsDrainLogs = (t : Track) (o : Order) (rest : List Mark) (events : List Event) (d : MemId) →
+    IsDue t o rest → CallsNone rest → Legal t events → (run t events).due ≡ rest → IsOver (run t events) → o.operation ≡ Drains d →
+    IsEmptyAt (run t events) d.0

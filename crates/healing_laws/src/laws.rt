@@ -6,7 +6,7 @@ ghost use Rattle.healing_laws.specs.Running.{EveryEventKeeps, EveryListEndsAtRes
 ghost use Rattle.healing_laws.specs.Refusals.{CrashesAloneRefuseNothing, FramesAreTheMachines, PendingRefusalsHaveCauses, PlainMapsFit, RefusalsHaveCausesThere};
 ghost use Rattle.healing_laws.specs.Forms.{ListsKeepMessagesInForm, MessagesStayInForm};
 ghost use Rattle.healing_laws.specs.Answering.{AnswersAreTrueThere};
-ghost use Rattle.healing_laws.specs.Emptying.{DrainsEmptyThere, EmptyLogsStayThere};
+ghost use Rattle.healing_laws.specs.Emptying.{CallsDrainLogs, CallsKeepEmptyLogs, DrainsEmptyThere, EmptyLogsStayThere};
 ghost use Rattle.healing_laws.specs.Playing.{CallsArePlayable, EveryTrackIsPlayable, MarksArePlayable, SomethingIsPending};
 
 /// While a memory is healed, every delivery of a message that isn't the move's keeps the relation, whatever operation is
@@ -140,4 +140,15 @@ pub fn empty_logs_stay_empty_through_crashes()
 /// A drain leaves the log of its memory empty, whatever it held and whatever crashes on the way.
 pub fn a_drain_leaves_its_log_empty_through_crashes()
     ensures { DrainsEmptyThere }
+{}
+
+/// An operation that is due and doesn't write leaves empty logs empty, also where memories crash and are healed before it
+/// begins.
+pub fn calls_keep_empty_logs()
+    ensures { CallsKeepEmptyLogs }
+{}
+
+/// A drain that is due leaves the log of its memory empty, also where memories crash and are healed before it begins.
+pub fn calls_drain_logs()
+    ensures { CallsDrainLogs }
 {}

@@ -13,7 +13,7 @@ mod laws;
 
 pub use laws::{
     a_drain_leaves_its_log_empty_through_crashes, answers_are_true_through_crashes,
-    calls_are_playable, crashes_alone_refuse_nothing,
+    calls_are_playable, calls_drain_logs, calls_keep_empty_logs, crashes_alone_refuse_nothing,
     deliveries_beside_a_healing_keep_the_relation, empty_logs_stay_empty_through_crashes,
     every_delivery_keeps_the_relation, every_event_keeps_the_relation_through_crashes,
     every_list_ends_at_rest, every_list_keeps_the_relation_through_crashes,

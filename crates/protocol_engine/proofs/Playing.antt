@@ -160,7 +160,12 @@ called_closed None current closed = ap called_by closed
 called_closed (Some o) current closed = refl
 
 pub same_on : (a b c : Engine) → SameMachine a b → SameMachine b c → SameMachine a c
-same_on a b c first second = record { shape = second.shape ∙ first.shape; count = second.count ∙ first.count }
+same_on a b c first second = record {
+  shape = second.shape ∙ first.shape;
+  count = second.count ∙ first.count;
+  placement = second.placement ∙ first.placement;
+  given = second.given ∙ first.given;
+}
 
 pub no_more : (n : ℕ) → n ≤ n
 no_more n = omega arith

@@ -44,6 +44,9 @@ HasCount c = c.table.memories ≡ memory_count c.shape
 pub record SameMachine (old new : Engine) : Type 0 where
   pub shape : new.shape ≡ old.shape
   pub count : new.table.memories ≡ old.table.memories
+  -- and so is whose turn it is to own a region
+  pub placement : new.table.placement ≡ old.table.placement
+  pub given : new.table.given ≡ old.table.given
 
 -- with nothing beyond
 abbrev pub bare : Engine → Track

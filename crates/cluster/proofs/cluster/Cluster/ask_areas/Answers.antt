@@ -23,6 +23,8 @@ ask_all-requires-clause-may g c none =
       granted = record {
         stands = rests.1;
         issuer = c.requires.issuer;
+        drained = [];
+        empty = tt;
         fit = asks_fit (memory_count c.args.self.now.shape) c.args.self.now.table.owners rests.0 c.args.entries.now (c.requires.owned none);
       };
       fits = asks_caches c.args.entries.now c.args.by nothing_cached;
@@ -37,6 +39,8 @@ returns-in-Ok-all_runs-clause-areas g c f stands =
     let granted : AreGrantedAt c.args.self.now f c.args.by (asks_of c.args.entries.now) = record {
       stands = stands;
       issuer = c.requires.issuer;
+      drained = [];
+      empty = tt;
       fit = asks_fit (memory_count c.args.self.now.shape) c.args.self.now.table.owners f c.args.entries.now (c.requires.owned (sym c.halted.ensures ∙ c.in-None.is));
     } in
     let replies : AreReplies f (asks_of c.args.entries.now) c.in-Ok-ask_all.answers.items

@@ -23,6 +23,8 @@ ask_all-requires-clause-may g c none =
       granted = record {
         stands = rests.1;
         issuer = c.requires.issuer;
+        drained = [];
+        empty = tt;
         fit = reads_fit c.args.file c.args.off c.args.len (memory_count c.args.self.now.shape) c.args.self.now.table.owners rests.0 c.requires.most rests.2;
       };
       fits = reads_caches c.args.file c.args.off c.args.len c.args.by nothing_cached;
@@ -37,6 +39,8 @@ returns-in-Ok-all_bytes-clause-bytes g c f stands there within =
     let granted : AreGrantedAt c.args.self.now f c.args.by (reads_of c.args.file c.args.off c.args.len) = record {
       stands = stands;
       issuer = c.requires.issuer;
+      drained = [];
+      empty = tt;
       fit = reads_fit c.args.file c.args.off c.args.len (memory_count c.args.self.now.shape) c.args.self.now.table.owners f c.requires.most there;
     } in
     let replies : AreReplies f (reads_of c.args.file c.args.off c.args.len) c.in-Ok-ask_all.answers.items

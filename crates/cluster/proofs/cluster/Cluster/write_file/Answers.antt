@@ -23,6 +23,8 @@ ask_all-requires-clause-may g c none =
       granted = record {
         stands = rests.1;
         issuer = c.requires.issuer;
+        drained = [];
+        empty = tt;
         fit = writes_fit c.args.file c.args.off c.args.bytes.now (memory_count c.args.self.now.shape) c.args.self.now.table.owners rests.0 c.requires.most rests.2;
       };
       fits = writes_caches c.args.file c.args.off c.args.bytes.now c.args.by nothing_cached;
@@ -37,6 +39,8 @@ returns-in-Ok-ask_all-clause-stands g c f stands there =
     let granted : AreGrantedAt c.args.self.now f c.args.by (writes_of c.args.file c.args.off c.args.bytes.now) = record {
       stands = stands;
       issuer = c.requires.issuer;
+      drained = [];
+      empty = tt;
       fit = writes_fit c.args.file c.args.off c.args.bytes.now (memory_count c.args.self.now.shape) c.args.self.now.table.owners f c.requires.most there;
     } in
     subst (StandsFor c.ask_all.new.self) (ap (λ (l : List Operation). effects l f) c.in-Ok.ensures ∙ writes_make c.args.file c.args.off c.args.bytes.now f there)

@@ -9,7 +9,7 @@ use Rattle.protocol_engine.proofs.engine.Engine.end_turn.Goals as goal
 pub crashes-init : goal.crashes-init
 crashes-init g c = record {
   went = λ b over. stays g.W.Watch.told g.W.Watch.faults _ _;
-  machine = record { shape = refl; count = refl };
+  machine = record { shape = refl; count = refl; placement = refl; given = refl };
   rests = c.requires.rests;
 }
 

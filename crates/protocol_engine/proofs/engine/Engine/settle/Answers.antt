@@ -10,7 +10,7 @@ use Rattle.protocol_engine.proofs.engine.Engine.settle.Goals as goal
 pub events-init : goal.events-init
 events-init g c = record {
   went = λ b. stays g.W.Watch.told g.W.Watch.faults _ _;
-  machine = record { shape = refl; count = refl };
+  machine = record { shape = refl; count = refl; placement = refl; given = refl };
   once = tt;
   runs = refl;
   opened = λ b. tt;
