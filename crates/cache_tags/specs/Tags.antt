@@ -66,6 +66,14 @@ touched pid line t = after_touch pid line t (place_of pid line t)
 abbrev pub touch_of : Pid → LineNo → Tagged → Touch
 touch_of pid line t = answer_to_touch pid line t (place_of pid line t)
 
+-- LOOK-UP: a line that is there moves to the front of its set; where it isn't, nothing changes
+abbrev pub after_look_up : LineNo → Tagged → Option ℕ → Tagged
+after_look_up line t (Some place) = with_set line (brought place (set_of line t)) t
+after_look_up line t None = t
+
+abbrev pub looked_up : Pid → LineNo → Tagged → Tagged
+looked_up pid line t = after_look_up line t (place_of pid line t)
+
 -- REMOVAL
 abbrev pub after_removal : LineNo → Tagged → Option ℕ → Tagged
 after_removal line t (Some place) = with_set line (released place (set_of line t)) t

@@ -120,6 +120,18 @@ impl Set {
         (oldest.slot as usize, Some(oldest))
     }
 
+    /// The slot that the next line to be taken in gets, and the line that leaves then, if one does.
+    pub(crate) fn next(&self) -> (usize, Option<Held>)
+        ensures slot { (pid : _) (line : _) → result.0 ≡ (coming pid line self.now).slot }
+        ensures leaves { (pid : _) (line : _) → result.1 ≡ (coming pid line self.now).leaves }
+    {
+        if self.live < self.entries.len() {
+            return (self.entries[self.live].slot as usize, None);
+        }
+        let oldest = self.entries[self.live - 1];
+        (oldest.slot as usize, Some(oldest))
+    }
+
     /// Lets go of the line at a place: its slot is the next to be taken.
     pub(crate) fn release(&mut self, place: usize)
         requires { place < length self.old.lines }

@@ -1,11 +1,12 @@
 //! The tags of a processor's cache.
 
-ghost use Rattle.std.specs.Prelude.{◌≡◌, ◌*◌, ◌%◌, ◌<◌, ◌^◌, IfOk, false, length, slice_index_or};
+ghost use Rattle.std.specs.Prelude.{◌≡◌, ◌*◌, ◌%◌, ◌<◌, ◌^◌, Bool, IfOk, IfSome, List, Some, false, length, slice_index_or};
 ghost use Rattle.std.specs.Int.{IsPowerOfTwo};
-ghost use Rattle.cache_tags.specs.Tags.{empty_sets, is_dirty_slot, least_of, marked, no_lines, removed, slot_of_line, touch_of, touched};
+ghost use Rattle.cache_tags.specs.Lists.{newest_slot};
+ghost use Rattle.cache_tags.specs.Tags.{empty_sets, is_dirty_slot, least_of, looked_up, marked, no_lines, removed, set_of, slot_of_line, touch_of, touched};
 
 use crate::least;
-use crate::set::Set;
+use crate::set::{Held, Set};
 use lego_base::{LineNo, NoMemory, Pid};
 use std::alloc::Global;
 use std::marker::Model;
@@ -79,6 +80,44 @@ impl Tags {
         }
     }
 
+    /// The slot of a line, where it is the newest of its set: a look-up changes nothing then.
+    #[inline(always)]
+    pub fn newest(&self, pid: Pid, line: LineNo) -> Option<usize>
+        ensures answer { result ≡ newest_slot pid line (set_of line self.now).lines }
+        ensures there { IfSome result (λ slot. slot_of_line pid line self.now ≡ Some slot) }
+        ensures stays { IfSome result (λ slot. looked_up pid line self.now ≡ self.now) }
+    {
+        self.sets[(line.0 & self.mask) as usize].newest(pid, line)
+    }
+
+    /// The slot of a line, where it is there: it is the newest of its set then. Where it isn't there, nothing changes.
+    #[inline(always)]
+    pub fn look_up(&mut self, pid: Pid, line: LineNo) -> Option<usize>
+        ensures answer { result ≡ slot_of_line pid line self.old }
+        ensures after { self.new ≡ looked_up pid line self.old }
+    {
+        let place = (line.0 & self.mask) as usize;
+        match self.sets[place].newest(pid, line) {
+            Some(slot) => Some(slot),
+            None => look_up_older(self.sets.as_mut_slice(), place, pid, line),
+        }
+    }
+
+    /// What a touch of a line would find. Nothing changes.
+    pub fn preview(&self, pid: Pid, line: LineNo) -> Touch
+        ensures { result ≡ touch_of pid line self.now }
+    {
+        let set = &self.sets[(line.0 & self.mask) as usize];
+        if let Some(place) = set.place(pid, line) {
+            return Touch::Hit(set.at(place).slot as usize);
+        }
+        let (slot, left) = set.next();
+        Touch::Miss {
+            slot,
+            victim: left.map(|held| leaving(self.dirty.as_slice(), held)),
+        }
+    }
+
     /// The slot of a line, where it is there.
     pub fn peek(&self, pid: Pid, line: LineNo) -> Option<usize>
         ensures { result ≡ slot_of_line pid line self.now }
@@ -138,15 +177,39 @@ fn touch_older(sets: &mut [Set], dirty: &mut [bool], place: usize, pid: Pid, lin
         return Touch::Hit(slot as usize);
     }
     let (slot, left) = set.take_in(pid, line);
-    let victim = left.map(|held| Victim {
-        pid: held.pid,
-        line: held.line,
-        dirty: is_dirty(dirty, held.slot as usize),
-    });
+    let victim = left.map(|held| leaving(dirty, held));
     if slot < dirty.len() {
         dirty[slot] = false;
     }
     Touch::Miss { slot, victim }
+}
+
+// Looks for a line that isn't the newest of its set.
+#[inline(never)]
+fn look_up_older(sets: &mut [Set], place: usize, pid: Pid, line: LineNo) -> Option<usize>
+    requires place { place ≡ line.0 % length sets.old }
+    requires within { place < length sets.old }
+    ensures answer { (dirty : List Bool) → result ≡ slot_of_line pid line (record { sets = sets.old; dirty = dirty }) }
+    ensures after { (dirty : List Bool) → record { sets = sets.new; dirty = dirty } ≡ looked_up pid line (record { sets = sets.old; dirty = dirty }) }
+{
+    let set = &mut sets[place];
+    let found = set.place(pid, line)?;
+    let slot = set.at(found).slot;
+    set.bring(found);
+    Some(slot as usize)
+}
+
+// A line that leaves.
+fn leaving(dirty: &[bool], held: Held) -> Victim
+    ensures pid { result.pid ≡ held.pid }
+    ensures line { result.line ≡ held.line }
+    ensures dirty { result.dirty ≡ slice_index_or dirty.now held.slot false }
+{
+    Victim {
+        pid: held.pid,
+        line: held.line,
+        dirty: is_dirty(dirty, held.slot as usize),
+    }
 }
 
 fn is_dirty(dirty: &[bool], slot: usize) -> bool

@@ -1,0 +1,5 @@
+pub mod Counting
+pub mod Cached
+pub mod Fits
+pub mod Hand
+pub mod Laws
