@@ -1,12 +1,12 @@
-/* What picolibc needs of the machine: three streams over read and write, memory for malloc, and an end. Standard output is
-   written a line at a time, since each call ends a turn. `main` is wrapped (-Wl,--wrap=main), so that the thread's own
+/* What picolibc needs of the machine: three streams over read and write, memory for malloc from brk, and an end. Standard output
+   is written a line at a time and the break moves by steps, since each call ends a turn. `main` is wrapped (-Wl,--wrap=main), so that the thread's own
    variables, as errno, have their place, and so that what is in the buffer goes out at the end. */
 #include <errno.h>
 #include <stddef.h>
 #include <stdio.h>
 #include <unistd.h>
 
-enum { LINE = 512, HEAP = 1 << 18 };
+enum { LINE = 512, STEP = 1 << 16 };
 
 static long system_call(long number, long first, long second, long third)
 {
@@ -60,18 +60,23 @@ static FILE out = FDEV_SETUP_STREAM(put_out, NULL, flush_line, _FDEV_SETUP_WRITE
 static FILE err = FDEV_SETUP_STREAM(put_err, NULL, NULL, _FDEV_SETUP_WRITE);
 FILE *const stdin = &in, *const stdout = &out, *const stderr = &err;
 
-static char heap[HEAP] __attribute__((aligned(16)));
-
+/* The break, which moves up by whole steps, so that not each piece of memory is a call. */
 void *sbrk(ptrdiff_t more)
 {
-    static size_t used;
-    char *start = heap + used;
-    if (more > 0 && (size_t)more > HEAP - used) {
-        errno = ENOMEM;
-        return (void *)-1;
+    static long used, end;
+    if (end == 0)
+        used = end = system_call(214, 0, 0, 0);
+    long start = used;
+    if (start + more > end) {
+        long wanted = (start + more + STEP - 1) / STEP * STEP;
+        if (system_call(214, wanted, 0, 0) != wanted) {
+            errno = ENOMEM;
+            return (void *)-1;
+        }
+        end = wanted;
     }
-    used += (size_t)more;
-    return start;
+    used += more;
+    return (void *)start;
 }
 
 _Noreturn void _exit(int code)

@@ -36,6 +36,8 @@ mod objects;
 #[cfg(test)]
 mod owners;
 #[cfg(test)]
+mod processes;
+#[cfg(test)]
 mod programs;
 #[cfg(test)]
 mod reports;

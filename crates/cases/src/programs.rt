@@ -21,6 +21,10 @@ const HI: &str =
 
 const PLAIN: &str = r#"{"version":1,"init":"p.elf","report":"r","archive":"a"}"#;
 
+// The file `f` has the bytes of the description itself.
+const WITH_FILE: &str =
+    r#"{"version":1,"init":"p.elf","files":[{"path":"f","from":"d.json"}],"report":"r","archive":"a"}"#;
+
 // The cases, a line each: the program's flags and its words in hexadecimal | the description, `PLAIN` where there is
 // none | the input | which call of the depot, the input, the output and the error fails, 0 for none | the status | what
 // the output holds | what the error holds | the report, nothing where there is none. A semicolon is a newline.
@@ -53,14 +57,18 @@ const CASES: &str =
 5 01013583 00100513 00200613 04000893 00000073 02013583 00200513 00300613 00000073 00013503 05d00893 00000073|{"version":1,"init":"p.elf","args":["p","xy"],"env":["a=1"],"turns":[7,6,5,4,3,2,1],"report":"r","archive":"a"}||0 0 0 1|13|xy||
 # a jump to itself
 5 0000006f|{"version":1,"init":"p.elf","max_turns":3,"report":"r","archive":"a"}||0 0 0 0|6|||ending spent;turns 3;
-# a call that isn't built, and a load that isn't executable
-5 01d00893 00000073|||0 0 0 0|17||lego: unbuilt Call;|
+# exit(40 + the call of number 29): ENOSYS
+5 01d00893 00000073 02850513 05d00893 00000073|||0 0 0 0|0|||ending done;turns 2;exit 1 512;
+# a load that isn't executable
 6 00100513 00000597 02058593 00200613 04000893 00000073 00000513 05d00893 00000073|||0 0 0 0|5||lego: image: EntryOutside;|
-# descriptions: two crashes in one turn, no turns, files, a program that the depot lacks
+# write(1, buffer, read(openat(AT_FDCWD, "f", O_RDONLY), buffer, 6)), exit(0), where the file has the description's bytes
+5 00000597 04858593 f9c00513 00000613 00000693 03800893 00000073 fc010593 00600613 03f00893 00000073 00050613 00100513 04000893 00000073 00000513 05d00893 00000073 00000066|{"version":1,"init":"p.elf","files":[{"path":"f","from":"d.json"}],"report":"r","archive":"a"}||0 0 0 0|0|{"vers||ending done;turns 4;exit 1 0;
+# descriptions: two crashes in one turn, no turns, a program that the depot lacks, a file that it lacks, and both
 5|{"version":1,"crashes":[{"turn":5,"after":0,"memory":0},{"turn":5,"after":1,"memory":0}],"init":"p.elf","report":"r","archive":"a"}||0 0 0 0|4||lego: description: range at crashes[1].turn;|
 5|{"version":1,"turns":[],"init":"p.elf","report":"r","archive":"a"}||0 0 0 0|4||lego: description: range at turns;|
-5|{"version":1,"init":"p.elf","files":[{"path":"f","from":"p.elf"}],"report":"r","archive":"a"}||0 0 0 0|17||lego: unbuilt Files;|
 5|{"version":1,"init":"q.elf","report":"r","archive":"a"}||0 0 0 0|3||lego: missing q.elf;|
+5|{"version":1,"init":"p.elf","files":[{"path":"f","from":"p.elf"},{"path":"g","from":"g.txt"}],"report":"r","archive":"a"}||0 0 0 0|3||lego: missing g.txt;|
+5|{"version":1,"init":"q.elf","files":[{"path":"g","from":"g.txt"}],"report":"r","archive":"a"}||0 0 0 0|3||lego: missing q.elf;|
 # write(1, "ab", 2), write(1, "cd", 2), exit(0), where an object fails; the depot's calls 1, 2 and 7 are the test's own
 5 00000597 03058593 00100513 00200613 04000893 00000073 00258593 00100513 00000073 00000513 05d00893 00000073 64636261||x|3 0 0 0|11||lego: depot failed;|
 5 00000597 03058593 00100513 00200613 04000893 00000073 00258593 00100513 00000073 00000513 05d00893 00000073 64636261||x|4 0 0 0|11||lego: depot failed;|
@@ -103,7 +111,7 @@ struct Outcome {
 }
 
 // An image with these flags and these words in hexadecimal, then these bytes.
-fn image(alloc: Global, program: &str, text: &[u8]) -> Result<Vec<u8>, Fail> {
+pub fn image(alloc: Global, program: &str, text: &[u8]) -> Result<Vec<u8>, Fail> {
     let mut words = program.split_whitespace();
     let flags = words.next().unwrap_or("").parse::<u8>()?;
     let mut code = Vec::new(alloc);
@@ -168,7 +176,7 @@ fn call(
 }
 
 // What the depot has under a name, empty where it has nothing.
-fn entry(alloc: Global, depot: &mut MemDepot, name: &str) -> Result<Bytes, Fail> {
+pub fn entry(alloc: Global, depot: &mut MemDepot, name: &str) -> Result<Bytes, Fail> {
     match depot.get(alloc, name) {
         Got::Found(bytes) => Ok(bytes),
         _ => Ok(Bytes::with_room(alloc, 0)?),
@@ -176,7 +184,7 @@ fn entry(alloc: Global, depot: &mut MemDepot, name: &str) -> Result<Bytes, Fail>
 }
 
 // Whether the bytes are this text, with a newline for each semicolon.
-fn is_text(bytes: &[u8], text: &str) -> bool {
+pub fn is_text(bytes: &[u8], text: &str) -> bool {
     if bytes.len() != text.len() {
         return false;
     }
@@ -280,6 +288,20 @@ fn hi_leaves_report_and_archive(rt: HostRuntime) -> Result<(), Fail> {
             "ending done;turns 2;exit 1 0;"
         )?
     );
+    Ok(())
+}
+
+// A file that is there at the start is in the archive.
+#[test]
+fn archive_has_the_file_of_the_description(rt: HostRuntime) -> Result<(), Fail> {
+    let alloc = rt.alloc();
+    let hi = image(alloc, HI, b"hi")?;
+    let mut outcome = call(alloc, "plain d.json", WITH_FILE, hi.as_slice(), b"", NONE)?;
+    let archive = entry(alloc, &mut outcome.depot, "a")?;
+    let mut wanted = Vec::from_slice(alloc, b"LEGOARC1\x01\0\0\0\x01\0f")?;
+    wanted.extend_from_slice((WITH_FILE.len() as u64).to_le_bytes().as_slice())?;
+    wanted.extend_from_slice(WITH_FILE.as_bytes())?;
+    assert_eq!(rt; archive.as_slice(), wanted.as_slice());
     Ok(())
 }
 

@@ -6,7 +6,7 @@ use Rattle.elf_image.specs.Image.{Program}
 use Rattle.kernel_objects.specs.declared.descriptor.FdEntry.{FdEntry}
 use Rattle.kernel_objects.specs.declared.piece.Piece.{Piece}
 use Rattle.kernel_objects.specs.Slots.{picks}
-use Rattle.kernel_model.specs.Boot.{filled_pages, pages_met}
+use Rattle.space_rules.specs.Pages.{filled_pages, pages_met}
 use Rattle.space_rules.specs.Start.{sp_of, stack_bytes}
 use Rattle.linux_model.specs.Limits.{E2BIG}
 use Rattle.linux_model.specs.State.{Kernel}

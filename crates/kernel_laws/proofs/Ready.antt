@@ -1,29 +1,12 @@
 -- Who has a turn lives, and is found by its pid.
-use Rattle.std.proofs.Common.{◌≡◌, ℕ, zero, suc, ◌-◌, ◌<◌, ◌%◌, Bool, true, false, cond, eqb, ◌⊎◌, inl, inr, slice_index, mod-lt, refl, sym, ◌∙◌, ap, subst, List, [], ◌∷◌, length, Option, Some, None, arith}
+use Rattle.std.proofs.Common.{◌≡◌, ℕ, ◌-◌, ◌<◌, ◌%◌, Bool, true, false, cond, eqb, ◌⊎◌, inl, inr, slice_index, mod-lt, refl, sym, ◌∙◌, ap, subst, List, [], ◌∷◌, length, Option, Some, None, arith}
 use Rattle.std.proofs.lemmas.Bool.{and_parts, eqb-true, eq-eqb}
 use Rattle.linux_model.specs.State.{Kernel, Process}
 use Rattle.linux_model.specs.Processes.{process, is_live}
 use Rattle.linux_model.specs.Turns.{Schedule, whose, chosen, ready, ready_in, is_ready}
 use Rattle.linux_model.specs.Fits.{PidsRise}
 use Rattle.linux_model.proofs.fits.Found.{found_pid}
-
-abbrev Has : ℕ → List ℕ → Type 0
-Has n [] = ⊥
-Has n (m ∷ numbers) = (n ≡ m) ⊎ Has n numbers
-
-has_index : (pids : List ℕ) (i : ℕ) → i < length pids → Has (slice_index pids i) pids
-has_index [] i h = absurd (omega arith)
-has_index (pid ∷ pids) zero h = inl refl
-has_index (pid ∷ pids) (suc i) h = inr (has_index pids i (omega arith))
-
-above_low : (k : Kernel) (low last : ℕ) (procs : List Process) (pid : ℕ) → PidsRise low last procs → Has pid (ready_in k procs) → low < pid
-above_low k low last [] pid r has = absurd has
-above_low k low last (q ∷ procs) pid r has = by (is_ready k q) has (above_low k q.pid last procs pid r.2)
-  where
-    by : (b : Bool) → Has pid (cond b (q.pid ∷ ready_in k procs) (ready_in k procs)) → (Has pid (ready_in k procs) → q.pid < pid) → low < pid
-    by true (inl e) more = let a : low < q.pid = r.0 in omega (arith, e)
-    by true (inr has) more = let a : low < q.pid = r.0 in let b : q.pid < pid = more has in omega arith
-    by false has more = let a : low < q.pid = r.0 in let b : q.pid < pid = more has in omega arith
+use Rattle.linux_model.proofs.fits.Runs.{Has, above_low, has_index}
 
 abbrev Lives : Option Process → Type 0
 Lives None = Unit {0}

@@ -1,6 +1,6 @@
 -- The causes of endings, and what each leaves. The command line, what the depot and standard input tell, and the flat run
 -- decide; only running out of memory has no cause.
-use Rattle.std.specs.Prelude.{◌≡◌, ℕ, ◌<◌, ◌⊎◌, List, length, Option, Some, None, Ok}
+use Rattle.std.specs.Prelude.{◌≡◌, ℕ, ◌<◌, ◌⊎◌, List, length, Option, Some, None}
 use Rattle.lego_base.specs.declared.report.EndWord.{EndWord}
 use Rattle.lego_base.specs.declared.report.EndWord.TheVariants as words
 use Rattle.lego_base.specs.Counts.{Rose}
@@ -11,16 +11,17 @@ use Rattle.desc_read.specs.declared.plan.Plan.{Plan}
 use Rattle.desc_read.specs.Faults.{refused}
 use Rattle.desc_read.specs.Plans.{described}
 use Rattle.elf_image.specs.Image.{first_fault}
-use Rattle.kernel_model.specs.State as kernel
-use Rattle.kernel_model.specs.State.{Kernel, Stream}
-use Rattle.kernel_model.specs.Turns.{flat}
+use Rattle.kernel_objects.specs.declared.descriptor.Stream.{Stream}
+use Rattle.kernel_objects.specs.declared.descriptor.Stream.TheVariants as streams
+use Rattle.linux_model.specs.State.{Kernel}
+use Rattle.linux_model.specs.Turns.{flat}
 use Rattle.plain_kernel.specs.Outcomes.{Took}
-use Rattle.plain_kernel.specs.Runs.{schedule_of, EndsAfter, Stops, StopsAtCall, Cuts}
+use Rattle.plain_kernel.specs.Runs.{EndsAfter, Stops, Cuts}
+use Rattle.plain_kernel.specs.Turns.{schedule_of}
 use Rattle.lego_top.specs.declared.ending.Ending.{Ending}
-use Rattle.lego_top.specs.declared.ending.Ending.TheVariants.{Done, Spent, Stuck, Usage, Missing, FileLong, BadDesc, BadImage, InputFault, InputLong, DepotFault, Unbuilt, OutFault, ErrFault, NoMemory}
-use Rattle.lego_top.specs.declared.ending.Part.TheVariants as parts
+use Rattle.lego_top.specs.declared.ending.Ending.TheVariants.{Done, Spent, Stuck, Usage, Missing, FileLong, BadDesc, BadImage, InputFault, InputLong, DepotFault, OutFault, ErrFault, NoMemory}
 use Rattle.lego_top.specs.Outside.{Outside, Outlets, outlets, Quiet, Unread}
-use Rattle.lego_top.specs.Inputs.{Found, Names, Loaded, Fed, Ran}
+use Rattle.lego_top.specs.Inputs.{Found, Names, Filed, Fed, Ran}
 use Rattle.lego_top.specs.Report.{report_in, archive_in, PutBoth, PutPart}
 
 -- The flat run ended so, the streams took what it wrote, and its report and archive were put.
@@ -45,9 +46,6 @@ Cut before after stream plan boot = Cuts (schedule_of plan) boot stream before.s
 abbrev pub Stopped : Outlets → Outlets → Plan → Kernel → Type 0
 Stopped before after plan boot = Stops (schedule_of plan) boot before.streams after.streams × (after.files ≡ before.files)
 
-abbrev pub StoppedAtCall : Outlets → Outlets → Plan → Kernel → Type 0
-StoppedAtCall before after plan boot = StopsAtCall (schedule_of plan) boot before.streams after.streams × (after.files ≡ before.files)
-
 -- the command line names a description, and nothing was written or put
 abbrev pub Unbegun : Option (List ℕ) → Outside → Outside → Type 0
 Unbegun asked before after = (name : List ℕ) × (asked ≡ Some name) × Quiet before after
@@ -63,14 +61,11 @@ Caused asked before after (FileLong name) =
     × Quiet before after × Unread before after
 Caused asked before after (BadDesc flaw place) =
     (f : Found asked before) × (described f.bytes ≡ refused flaw place) × Quiet before after × Unread before after
-Caused asked before after (Unbuilt parts.Files) =
-    (f : Found asked before) × (plan : Plan) × (described f.bytes ≡ Ok plan) × (0 < length plan.files) × Quiet before after × Unread before after
-Caused asked before after InputFault = Loaded asked before × Rose before.input.faults after.input.faults × Quiet before after
-Caused asked before after InputLong = Loaded asked before × IsLonger LONGEST_FILE before.input.left × Quiet before after
-Caused asked before after (BadImage fault) = (fed : Fed asked before after) × (first_fault fed.loaded.image ≡ Some fault) × Quiet before after
-Caused asked before after (Unbuilt parts.Call) = Ran asked before after (StoppedAtCall (outlets before) (outlets after))
-Caused asked before after OutFault = Rose before.out.faults after.out.faults × Ran asked before after (Cut (outlets before) (outlets after) kernel.Out)
-Caused asked before after ErrFault = Rose before.err.faults after.err.faults × Ran asked before after (Cut (outlets before) (outlets after) kernel.Err)
+Caused asked before after InputFault = Filed asked before × Rose before.input.faults after.input.faults × Quiet before after
+Caused asked before after InputLong = Filed asked before × IsLonger LONGEST_FILE before.input.left × Quiet before after
+Caused asked before after (BadImage fault) = (fed : Fed asked before after) × (first_fault fed.filed.loaded.image ≡ Some fault) × Quiet before after
+Caused asked before after OutFault = Rose before.out.faults after.out.faults × Ran asked before after (Cut (outlets before) (outlets after) streams.Out)
+Caused asked before after ErrFault = Rose before.err.faults after.err.faults × Ran asked before after (Cut (outlets before) (outlets after) streams.Err)
 Caused asked before after DepotFault =
     Rose before.depot.faults after.depot.faults × (Unbegun asked before after ⊎ Ran asked before after (EndedUnput (outlets before) (outlets after)))
 Caused asked before after NoMemory = Unbegun asked before after ⊎ Ran asked before after (Stopped (outlets before) (outlets after))

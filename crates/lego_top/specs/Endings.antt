@@ -2,15 +2,14 @@
 use Rattle.std.specs.Prelude.{ℕ, Result, Ok, Err}
 use Rattle.lego_base.specs.declared.report.EndWord.{EndWord}
 use Rattle.lego_base.specs.declared.report.EndWord.TheVariants as words
-use Rattle.lego_base.specs.declared.stops.CallStop.{CallStop}
-use Rattle.lego_base.specs.declared.stops.CallStop.TheVariants as stop
+use Rattle.plain_kernel.specs.declared.kernel.RunStop.{RunStop}
+use Rattle.plain_kernel.specs.declared.kernel.RunStop.TheVariants as stop
 use Rattle.host_io.specs.declared.reading.InputStop.{InputStop}
 use Rattle.host_io.specs.declared.reading.InputStop.TheVariants as input
 use Rattle.desc_read.specs.declared.fault.DescFault.{DescFault}
 use Rattle.desc_read.specs.declared.fault.DescFault.TheVariants as desc
 use Rattle.lego_top.specs.declared.ending.Ending.{Ending}
-use Rattle.lego_top.specs.declared.ending.Ending.TheVariants.{Done, Spent, Stuck, Usage, Missing, FileLong, BadDesc, BadImage, InputFault, InputLong, DepotFault, Unbuilt, OutFault, ErrFault, NoMemory}
-use Rattle.lego_top.specs.declared.ending.Part.TheVariants.{Call}
+use Rattle.lego_top.specs.declared.ending.Ending.TheVariants.{Done, Spent, Stuck, Usage, Missing, FileLong, BadDesc, BadImage, InputFault, InputLong, DepotFault, OutFault, ErrFault, NoMemory}
 use Rattle.lego_top.specs.declared.depot_file.FetchFault.{FetchFault}
 use Rattle.lego_top.specs.declared.depot_file.FetchFault.TheVariants as fetch
 use Rattle.lego_top.specs.declared.leaving.LeaveFault.{LeaveFault}
@@ -33,7 +32,6 @@ status_of OutFault = 12
 status_of ErrFault = 13
 status_of NoMemory = 15
 status_of (FileLong name) = 16
-status_of (Unbuilt part) = 17
 
 -- the ending of a run that came to its end
 abbrev pub ending_of : EndWord → Ending
@@ -59,7 +57,6 @@ of_input input.NoMemory = NoMemory
 
 abbrev pub of_run : RunFault → Ending
 of_run (run.Image fault) = BadImage fault
-of_run run.Unbuilt = Unbuilt Call
 of_run run.Out = OutFault
 of_run run.Err = ErrFault
 of_run run.Depot = DepotFault
@@ -71,11 +68,10 @@ ending_from (Ok word) = ending_of word
 ending_from (Err ending) = ending
 
 -- why the run of a program failed, by what stopped it or by what was left of it
-abbrev pub of_stop : CallStop → RunFault
-of_stop (stop.Halt halt) = run.NoMemory
+abbrev pub of_stop : RunStop → RunFault
 of_stop stop.OutFault = run.Out
 of_stop stop.ErrFault = run.Err
-of_stop stop.Unbuilt = run.Unbuilt
+of_stop stop.NoMemory = run.NoMemory
 
 abbrev pub of_leave : LeaveFault → RunFault
 of_leave leave.Depot = run.Depot

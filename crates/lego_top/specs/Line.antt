@@ -6,13 +6,7 @@ use Rattle.host_io.specs.Sinks.{SinkState, TookAll, TookFront}
 use Rattle.desc_read.specs.Faults.{word_of}
 use Rattle.elf_image.specs.Image.{name_of}
 use Rattle.lego_top.specs.declared.ending.Ending.{Ending}
-use Rattle.lego_top.specs.declared.ending.Ending.TheVariants.{Done, Spent, Stuck, Usage, Missing, FileLong, BadDesc, BadImage, InputFault, InputLong, DepotFault, Unbuilt, OutFault, ErrFault, NoMemory}
-use Rattle.lego_top.specs.declared.ending.Part.{Part}
-use Rattle.lego_top.specs.declared.ending.Part.TheVariants.{Files, Call}
-
-abbrev pub part_name : Part → List ℕ
-part_name Files = codes "Files"
-part_name Call = codes "Call"
+use Rattle.lego_top.specs.declared.ending.Ending.TheVariants.{Done, Spent, Stuck, Usage, Missing, FileLong, BadDesc, BadImage, InputFault, InputLong, DepotFault, OutFault, ErrFault, NoMemory}
 
 -- the line of these pieces
 abbrev pub line : List (List ℕ) → List ℕ
@@ -35,7 +29,6 @@ line_of (BadImage fault) = line (codes "lego: image: " ∷ name_of fault ∷ [])
 line_of InputFault = line (codes "lego: input failed" ∷ [])
 line_of InputLong = line (codes "lego: input is longer than 16777216 bytes" ∷ [])
 line_of DepotFault = line (codes "lego: depot failed" ∷ [])
-line_of (Unbuilt part) = line (codes "lego: unbuilt " ∷ part_name part ∷ [])
 line_of OutFault = line (codes "lego: output failed" ∷ [])
 line_of ErrFault = []
 line_of NoMemory = line (codes "lego: out of memory" ∷ [])

@@ -3,8 +3,9 @@ use Rattle.std.specs.Prelude.{ℕ, ◌⊎◌, List, [], Option}
 use Rattle.lego_base.specs.declared.report.EndWord.{EndWord}
 use Rattle.host_io.specs.Depots.{Files, Set, OthersStay}
 use Rattle.desc_read.specs.declared.plan.Plan.{Plan}
-use Rattle.kernel_model.specs.State.{Kernel}
-use Rattle.plain_kernel.specs.declared.run.PlainEnd.{PlainEnd}
+use Rattle.linux_model.specs.State.{Kernel}
+use Rattle.linux_model.specs.Named.{named_files}
+use Rattle.plain_kernel.specs.declared.left.PlainEnd.{PlainEnd}
 use Rattle.report_text.specs.Report.{report_of}
 use Rattle.report_text.specs.Archive.{archive_of}
 
@@ -13,7 +14,7 @@ abbrev pub report_in : EndWord → ℕ → Kernel → List ℕ
 report_in word turns k = report_of (record { word = word; turns = turns }) k.exits []
 
 abbrev pub archive_in : Kernel → List ℕ
-archive_in k = archive_of k.files
+archive_in k = archive_of (named_files k)
 
 -- the depot has the report, and then the archive, under their names; all other entries stayed
 pub record PutBoth (plan : Plan) (report archive : List ℕ) (before after : Option Files) : Type 0 where

@@ -8,7 +8,7 @@ ghost use Rattle.lego_top.specs.Outside.{outside};
 ghost use Rattle.lego_top.specs.Theorem.{Answered};
 
 use crate::command_line::named_description;
-use crate::depot_file::fetch;
+use crate::depot_file::{fetch, fetch_files};
 use crate::description::described;
 use crate::ending::Ending;
 use crate::message::say;
@@ -74,7 +74,17 @@ fn plain<S: Source, O: Sink, E: Sink, D: Depot>(
     };
     let plan = described(alloc, depot, name)?;
     let program = fetch(alloc, depot, plan.init.as_str())?;
+    let files = fetch_files(alloc, depot, plan.files.as_slice())?;
     let bytes = read_all(alloc, input, LONGEST_FILE)?;
-    let word = run_program(alloc, &plan, program.as_slice(), bytes, out, err, depot)?;
+    let word = run_program(
+        alloc,
+        &plan,
+        program.as_slice(),
+        files.as_slice(),
+        bytes,
+        out,
+        err,
+        depot,
+    )?;
     Ok(word)
 }

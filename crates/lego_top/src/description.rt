@@ -5,12 +5,12 @@ ghost use Rattle.lego_top.specs.Outside.{Outside, with_depot};
 ghost use Rattle.lego_top.specs.Stages.{Described};
 
 use crate::depot_file::fetch;
-use crate::ending::{Ending, Part};
+use crate::ending::Ending;
 use desc_read::{Plan, read_plan};
 use host_io::Depot;
 use std::alloc::Global;
 
-/// The plan of the description that the depot has under a name, if all that it asks for is built.
+/// The plan of the description that the depot has under a name.
 pub fn described<D: Depot>(alloc: Global, depot: &mut D, name: &str) -> Result<Plan, Ending>
     ensures later { (D.state depot.old).faults ≤ (D.state depot.new).faults }
     ensures same { (D.state depot.new).files ≡ (D.state depot.old).files }
@@ -20,8 +20,5 @@ pub fn described<D: Depot>(alloc: Global, depot: &mut D, name: &str) -> Result<P
 {
     let bytes = fetch(alloc, depot, name)?;
     let plan = read_plan(alloc, bytes.as_slice())?;
-    if !plan.files.is_empty() {
-        return Err(Ending::Unbuilt { part: Part::Files });
-    }
     Ok(plan)
 }

@@ -35,23 +35,12 @@ pub enum Ending {
     InputLong,
     /// The depot failed.
     DepotFault,
-    /// The description, or the program, needs what isn't built yet.
-    Unbuilt { part: Part },
     /// Standard output failed.
     OutFault,
     /// Standard error failed.
     ErrFault,
     /// Memory ran out.
     NoMemory,
-}
-
-/// What isn't built yet.
-#[derive(Clone, Copy, Debug, PartialEq, Eq)]
-pub enum Part {
-    /// Files that are there at the start.
-    Files,
-    /// A system call.
-    Call,
 }
 
 impl Ending {
@@ -76,7 +65,6 @@ impl Ending {
             Ending::ErrFault => 13,
             Ending::NoMemory => 15,
             Ending::FileLong { name: _ } => 16,
-            Ending::Unbuilt { part: _ } => 17,
         }
     }
 
@@ -134,7 +122,6 @@ impl From<RunFault> for Ending {
     fn from(fault: RunFault) -> Ending {
         match fault {
             RunFault::Image(kind) => Ending::BadImage { kind },
-            RunFault::Unbuilt => Ending::Unbuilt { part: Part::Call },
             RunFault::Out => Ending::OutFault,
             RunFault::Err => Ending::ErrFault,
             RunFault::Depot => Ending::DepotFault,

@@ -1,6 +1,7 @@
 //! What a run leaves in the depot.
 
-ghost use Rattle.std.specs.Prelude.{◌≡◌, ◌≤◌, []};
+ghost use Rattle.std.specs.Prelude.{◌≡◌, ◌≤◌};
+ghost use Rattle.kernel_laws.specs.Laws.{CanBeArchived};
 ghost use Rattle.lego_top.specs.Stages.{Left};
 
 use desc_read::Plan;
@@ -46,7 +47,7 @@ pub fn leave<D: Depot>(
     end: &PlainEnd,
     depot: &mut D,
 ) -> Result<(), LeaveFault>
-    requires { end.now.files ≡ [] }
+    requires { CanBeArchived end.now.files }
     ensures later { (D.state depot.old).faults ≤ (D.state depot.new).faults }
     ensures left { Left plan.now end.now (D.state depot.old) (D.state depot.new) result }
 {

@@ -3,9 +3,9 @@
 ghost use Rattle.std.specs.Prelude.{◌≡◌, OnOk, OnErr, map};
 ghost use Rattle.lego_base.specs.Counts.{HasCause};
 ghost use Rattle.host_io.specs.Sinks.{TookAll, TookFront};
-ghost use Rattle.lego_top.specs.Line.{line, line_of, place_line, part_name};
+ghost use Rattle.lego_top.specs.Line.{line, line_of, place_line};
 
-use crate::ending::{Ending, Part};
+use crate::ending::Ending;
 use host_io::{Failed, Sink, write_all};
 
 /// Writes the line of an ending. Takes no memory.
@@ -34,9 +34,6 @@ pub fn say<E: Sink>(err: &mut E, ending: &Ending) -> Result<(), Failed>
         Ending::InputFault => write_line(err, &[b"lego: input failed"]),
         Ending::InputLong => write_line(err, &[b"lego: input is longer than 16777216 bytes"]),
         Ending::DepotFault => write_line(err, &[b"lego: depot failed"]),
-        Ending::Unbuilt { part } => {
-            write_line(err, &[b"lego: unbuilt ", part_name(*part).as_bytes()])
-        }
         Ending::OutFault => write_line(err, &[b"lego: output failed"]),
         Ending::NoMemory => write_line(err, &[b"lego: out of memory"]),
     }
@@ -65,13 +62,4 @@ fn write_line<E: Sink>(err: &mut E, pieces: &[&[u8]]) -> Result<(), Failed>
         write_all(err, piece)?;
     }
     write_all(err, b"\n")
-}
-
-fn part_name(part: Part) -> &'static str
-    ensures { result.now ≡ part_name part }
-{
-    match part {
-        Part::Files => "Files",
-        Part::Call => "Call",
-    }
 }

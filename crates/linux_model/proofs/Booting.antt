@@ -4,11 +4,10 @@ use Rattle.lego_base.specs.declared.report.FileOut.{FileOut}
 use Rattle.lego_base.specs.Files.{named}
 use Rattle.lego_base.specs.Space.{Space, no_space, with_space}
 use Rattle.elf_image.specs.Image.{Program}
-use Rattle.kernel_model.specs.Boot.{start_of}
 use Rattle.linux_model.specs.Limits.{FILES}
 use Rattle.linux_model.specs.State.{Kernel, unbooted}
 use Rattle.linux_model.specs.Effects.{Effect, Begins, WritesFile, Starts, apply, applies, with_new_file}
-use Rattle.linux_model.specs.Loading.{loads_program, break_of, start_space}
+use Rattle.linux_model.specs.Loading.{start_of, loads_program, break_of, start_space}
 use Rattle.linux_model.specs.Boot.{file_effects, standard_streams, boot_of, booted_process, streams}
 use Rattle.linux_model.proofs.Folds.{applies-append}
 use Rattle.linux_model.proofs.Loading.{loading}

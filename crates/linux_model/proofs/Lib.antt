@@ -2,9 +2,14 @@ pub mod Folds
 pub mod Flat
 pub mod Growth
 pub mod Looking
+pub mod Spaces
+pub mod Filled
+pub mod Cut
 pub mod Loading
 pub mod Booting
 pub mod Holding
 pub mod Managing
+pub mod Steps
+pub mod Running
 pub mod fits
 pub mod rows

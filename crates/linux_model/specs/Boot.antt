@@ -7,12 +7,11 @@ use Rattle.kernel_objects.specs.declared.descriptor.FdEntry.{FdEntry}
 use Rattle.kernel_objects.specs.declared.descriptor.Object.{Object}
 use Rattle.kernel_objects.specs.declared.descriptor.Object.TheVariants.{Input, Output}
 use Rattle.kernel_objects.specs.declared.descriptor.Stream.TheVariants.{Out, Err}
-use Rattle.kernel_model.specs.Boot.{start_of}
 use Rattle.linux_model.specs.Limits.{O_WRONLY}
 use Rattle.linux_model.specs.State.{Kernel, Process, unbooted}
 use Rattle.linux_model.specs.Processes.{first_process}
 use Rattle.linux_model.specs.Effects.{Effect, Begins, MakesFile, WritesFile, Opens, Starts, applies}
-use Rattle.linux_model.specs.Loading.{loads_program, break_of}
+use Rattle.linux_model.specs.Loading.{start_of, loads_program, break_of}
 
 -- files with their names, the first of them under a number
 abbrev pub file_effects : ℕ → List FileOut → List Effect

@@ -3,6 +3,7 @@ pub mod State
 pub mod Processes
 pub mod Effects
 pub mod Instructions
+pub mod Agrees
 pub mod Called
 pub mod Buffers
 pub mod Paths

@@ -5,7 +5,6 @@ use Rattle.lego_base.specs.Space.{Space, permits, bytes_at, number_of, bytes_of}
 use Rattle.elf_image.specs.Image.{Program, program_of, first_fault}
 use Rattle.space_rules.specs.declared.TheConstants.{MOST_STRINGS, MOST_STRING_BYTES}
 use Rattle.rv64_step.specs.Meaning.{with_reg, next_pc}
-use Rattle.kernel_model.specs.Boot.{start_of}
 use Rattle.kernel_objects.specs.declared.piece.Piece.{Piece}
 use Rattle.linux_model.specs.Limits.{ENOENT, E2BIG, ENOEXEC, ECHILD, EAGAIN, EACCES, EFAULT, EINVAL, SIGCHLD, AT_FDCWD, ANY, PROCESSES, is_negative}
 use Rattle.linux_model.specs.State.{Kernel, Process}
@@ -15,7 +14,7 @@ use Rattle.linux_model.specs.Called.{Called, Gives, Becomes, Waits, Death, says,
 use Rattle.linux_model.specs.Buffers.{one_piece, where_good, to_read, to_write}
 use Rattle.linux_model.specs.Paths.{Found, Root, Named, Text, TextEnd, AtZero, Denied, Long, text_at, at_path}
 use Rattle.linux_model.specs.Descriptors.{closings}
-use Rattle.linux_model.specs.Loading.{loads_program}
+use Rattle.linux_model.specs.Loading.{start_of, loads_program}
 
 -- ---- death
 

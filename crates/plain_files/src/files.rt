@@ -7,7 +7,7 @@ ghost use Rattle.lego_base.specs.declared.sizes.TheConstants.{LONGEST_FILE};
 ghost use Rattle.plain_files.specs.Stored.{freed, new_number, nothing, with_new};
 
 use file_table::{Contents, Names};
-use lego_base::{Bytes, FileNo, NoMemory};
+use lego_base::{Bytes, FileNo, NameEntry, NoMemory};
 use std::alloc::Global;
 use std::marker::Model;
 
@@ -141,6 +141,13 @@ impl PlainFiles {
         ensures err { OnErr result (self.new ≡ self.old) }
     {
         self.contents.write_at(file, off as usize, bytes)
+    }
+
+    /// A copy of all names with their files, in the order of their bytes.
+    pub fn names(&self, alloc: Global) -> Result<Vec<NameEntry>, NoMemory>
+        ensures { IfOk result (λ names. names.items ≡ self.now.names) }
+    {
+        self.names.list(alloc)
     }
 
     /// Sets the size of a file that is there, with zeros where it grows, as `ftruncate(2)` does.

@@ -1,8 +1,8 @@
-pub mod Piecewise
-pub mod Instructed
-pub mod Calling
-pub mod Answering
+pub mod Making
 pub mod Turning
-pub mod Going
-pub mod Ran
-pub mod Loaded
+pub mod Writing
+pub mod Booting
+pub mod Choosing
+pub mod Chances
+pub mod Rounds
+pub mod Ending

@@ -1,7 +1,8 @@
 pub mod Standing
+pub mod Making
+pub mod Turns
+pub mod Left
 pub mod Outcomes
-pub mod Made
-pub mod Turned
+pub mod Written
 pub mod Runs
-pub mod Loading
-pub mod Going
+pub mod Booted

@@ -1,28 +1,27 @@
 -- What a whole run did to its two streams, by the flat run.
-use Rattle.std.specs.Prelude.{◌≡◌, ℕ, suc, ◌<◌, ◌≤◌, true, false, List, ◌++◌, length, Some, None, Result, Ok, Err}
+use Rattle.std.specs.Prelude.{◌≡◌, ℕ, suc, ◌<◌, ◌≤◌, List, ◌++◌, length, Some, None, IfSome, Result, Ok, Err}
 use Rattle.lego_base.specs.declared.report.EndWord.{EndWord}
-use Rattle.lego_base.specs.declared.stops.CallStop.{CallStop}
-use Rattle.lego_base.specs.declared.stops.CallStop.TheVariants.{Halt, OutFault, ErrFault, Unbuilt}
-use Rattle.desc_read.specs.declared.plan.Plan.{Plan}
-use Rattle.kernel_model.specs.State as streams
-use Rattle.kernel_model.specs.State.{Kernel, Stream, on, joined}
-use Rattle.kernel_model.specs.Turns.{Schedule, flat, ended, is_unbuilt_turn}
-use Rattle.plain_kernel.specs.declared.run.PlainEnd.{PlainEnd}
-use Rattle.plain_kernel.specs.Outcomes.{Told, Took}
+use Rattle.lego_base.specs.declared.report.Ended.{Ended}
+use Rattle.kernel_objects.specs.declared.descriptor.Stream.{Stream}
+use Rattle.kernel_objects.specs.declared.descriptor.Stream.TheVariants as streams
+use Rattle.plain_kernel.specs.declared.kernel.RunStop.{RunStop}
+use Rattle.plain_kernel.specs.declared.kernel.RunStop.TheVariants.{OutFault, ErrFault, NoMemory}
+use Rattle.linux_model.specs.State.{Kernel, Written, joined}
+use Rattle.linux_model.specs.Fits.{NamesFit}
+use Rattle.linux_model.specs.Held.{held_in}
+use Rattle.linux_model.specs.Managed.{managed_in}
+use Rattle.linux_model.specs.Named.{named_files}
+use Rattle.linux_model.specs.Turns.{Schedule, flat, ended, ready, whose}
+use Rattle.plain_kernel.specs.declared.kernel.PlainKernel.{PlainKernel}
+use Rattle.plain_kernel.specs.declared.left.PlainEnd.{PlainEnd}
+use Rattle.plain_kernel.specs.Outcomes.{Told, Took, part_for, front_of}
+use Rattle.plain_kernel.specs.Standing.{kernel_in}
+use Rattle.plain_kernel.specs.Turns.{CanTurn}
 
--- the turns that a description asks for
-abbrev pub schedule_of : Plan → Schedule
-schedule_of plan = record { turns = plan.turns; quantum = plan.quantum; max_turns = plan.max_turns }
-
--- the run goes on after n turns, and its next turn comes to no call that isn't built
-pub record GoesOn (schedule : Schedule) (boot : Kernel) (turns : ℕ) : Type 0 where
-  pub not_ended : ended schedule turns (flat schedule boot turns) ≡ None
-  pub built : is_unbuilt_turn schedule (suc turns) (flat schedule boot turns) ≡ false
-
--- The flat run on this kernel went through n turns, and went on after each of those before.
+-- The flat run on this kernel went through n turns, and didn't end before.
 pub record Through (schedule : Schedule) (boot : Kernel) (turns : ℕ) : Type 0 where
   pub few : turns ≤ schedule.max_turns
-  pub before : (m : ℕ) → m < turns → GoesOn schedule boot m
+  pub before : (m : ℕ) → m < turns → ended schedule m (flat schedule boot m) ≡ None
 
 -- It ends so after this many turns.
 pub record EndsAfter (schedule : Schedule) (boot : Kernel) (turns : ℕ) (word : EndWord) : Type 0 where
@@ -40,7 +39,7 @@ pub record Ends (schedule : Schedule) (boot : Kernel) (before after : Told) (end
   pub ends : EndsAfter schedule boot end.ended.turns end.ended.word
   pub took : Took before after (flat schedule boot end.ended.turns).written
   pub exits : end.exits ≡ (flat schedule boot end.ended.turns).exits
-  pub files : end.files ≡ (flat schedule boot end.ended.turns).files
+  pub files : end.files ≡ named_files (flat schedule boot end.ended.turns)
 
 -- it stopped after n turns: the streams have taken what the flat run wrote in these
 pub record Stops (schedule : Schedule) (boot : Kernel) (before after : Told) : Type 0 where
@@ -48,27 +47,52 @@ pub record Stops (schedule : Schedule) (boot : Kernel) (before after : Told) : T
   pub through : Through schedule boot turns
   pub took : Took before after (flat schedule boot turns).written
 
--- it stopped at a call that isn't built, in the turn after n
-pub record StopsAtCall (schedule : Schedule) (boot : Kernel) (before after : Told) : Type 0 where
-  pub turns : ℕ
-  pub into : GoesInto schedule boot turns
-  pub took : Took before after (flat schedule boot turns).written
-  pub unbuilt : is_unbuilt_turn schedule (suc turns) (flat schedule boot turns) ≡ true
-
--- it was cut by a fault of one stream, which has taken a proper prefix of what the turn writes besides
+-- it was cut by a fault of one stream, which has taken a proper prefix of its part of what the turn writes besides
 pub record Cuts (schedule : Schedule) (boot : Kernel) (stream : Stream) (before after : Told) : Type 0 where
   pub turns : ℕ
   pub into : GoesInto schedule boot turns
+  pub piece : Written
+  pub writes : (flat schedule boot (suc turns)).written ≡ joined (flat schedule boot turns).written piece
   pub front : List ℕ
   pub rest : List ℕ
   pub missing : 0 < length rest
-  pub took : Took before after (joined (flat schedule boot turns).written (on stream front))
-  pub whole : (flat schedule boot (suc turns)).written ≡ joined (flat schedule boot turns).written (on stream (front ++ rest))
+  pub whole : front ++ rest ≡ part_for stream piece
+  pub took : Took before after (joined (flat schedule boot turns).written (front_of stream piece front))
+
+abbrev pub StopsSo : Schedule → Kernel → Told → Told → RunStop → Type 0
+StopsSo schedule boot before after NoMemory = Stops schedule boot before after
+StopsSo schedule boot before after OutFault = Cuts schedule boot streams.Out before after
+StopsSo schedule boot before after ErrFault = Cuts schedule boot streams.Err before after
 
 -- how a run on the kernel that was booted came out
-abbrev pub PlainRan : Schedule → Kernel → Told → Told → Result PlainEnd CallStop → Type 0
+abbrev pub PlainRan : Schedule → Kernel → Told → Told → Result PlainEnd RunStop → Type 0
 PlainRan schedule boot before after (Ok end) = Ends schedule boot before after end
-PlainRan schedule boot before after (Err (Halt halt)) = Stops schedule boot before after
-PlainRan schedule boot before after (Err OutFault) = Cuts schedule boot streams.Out before after
-PlainRan schedule boot before after (Err ErrFault) = Cuts schedule boot streams.Err before after
-PlainRan schedule boot before after (Err Unbuilt) = StopsAtCall schedule boot before after
+PlainRan schedule boot before after (Err stop) = StopsSo schedule boot before after stop
+
+-- ---- for the loop over turns
+
+-- who has a turn of the flat run may have it
+abbrev pub TurnsMayCome : Schedule → Kernel → Type 0
+TurnsMayCome schedule boot =
+    (n : ℕ) → n < schedule.max_turns →
+    IfSome (whose schedule (suc n) (flat schedule boot n).procs (ready (flat schedule boot n))) (λ p.
+    CanTurn schedule p.pid (managed_in (flat schedule boot n)) (held_in (flat schedule boot n)))
+
+-- the file of each name is there, after every turn
+abbrev pub NamesStay : Schedule → Kernel → Type 0
+NamesStay schedule boot = (n : ℕ) → NamesFit (flat schedule boot n).files (flat schedule boot n).names
+
+-- n turns were run, and the kernel stands for that of the flat run
+pub record RanSoFar (schedule : Schedule) (boot : Kernel) (before after : Told) (now : PlainKernel) (turns : ℕ) : Type 0 where
+  pub through : Through schedule boot turns
+  pub took : Took before after (flat schedule boot turns).written
+  pub stands : kernel_in now (flat schedule boot turns).written ≡ flat schedule boot turns
+
+-- all turns came to an end
+pub record CameToEnd (schedule : Schedule) (boot : Kernel) (before after : Told) (now : PlainKernel) (end : Ended) : Type 0 where
+  pub ran : RanSoFar schedule boot before after now end.turns
+  pub ends : ended schedule end.turns (flat schedule boot end.turns) ≡ Some end.word
+
+abbrev pub Run : Schedule → Kernel → Told → Told → PlainKernel → Result Ended RunStop → Type 0
+Run schedule boot before after now (Ok end) = CameToEnd schedule boot before after now end
+Run schedule boot before after now (Err stop) = StopsSo schedule boot before after stop

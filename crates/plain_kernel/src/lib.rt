@@ -1,16 +1,17 @@
-//! The plain kernel: one processor and one flat memory, as ordinary code.
+//! The plain kernel, turn by turn: processes over one manager, and flat spaces and plain files under it.
 //!
-//! Its model is the flat run of kernel_model: `specs/Standing` says which kernel of the definitions a machine stands
-//! for. The promise is stated at [`plain_run`]: what it writes, how it ends, and the exits and files that it leaves are
-//! those of the flat run.
+//! Contracts see a [`PlainKernel`] as the kernel of the definitions that it stands for (`specs/Standing`), where what it has put
+//! out and not yet written is left to its machine. A turn is that of the flat run of linux_model: the effects of its instructions,
+//! and of the call or the death that ends them (`specs/Turns`). Only memory of the host may run out.
 #![tactic(auto)]
 
-mod calls;
-mod files;
-mod input;
-mod load;
-mod machine;
+mod boot;
+mod kernel;
+mod left;
+mod output;
 mod run;
-mod streams;
+mod turn;
 
-pub use run::{PlainEnd, plain_run};
+pub use kernel::{Next, PlainKernel, RunStop};
+pub use left::PlainEnd;
+pub use run::plain_run;

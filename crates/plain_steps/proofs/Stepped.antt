@@ -13,9 +13,9 @@ use Rattle.lego_base.specs.Space.{Space}
 use Rattle.flat_memory.specs.declared.turn.TurnSpace.{TurnSpace}
 use Rattle.flat_memory.specs.Access.{NoHalt, OutOfMemory}
 use Rattle.flat_memory.specs.Spaces.{space_of}
-use Rattle.kernel_model.specs.Agrees.{Agrees}
-use Rattle.kernel_model.specs.Instructions.{one}
-use Rattle.kernel_model.proofs.Steps.{step_is}
+use Rattle.linux_model.specs.Agrees.{Agrees}
+use Rattle.linux_model.specs.Instructions.{one}
+use Rattle.linux_model.proofs.Steps.{step_is}
 
 -- The space's own words: it serves its process and stays that of this process; only lack of memory halts, and only a
 -- store.

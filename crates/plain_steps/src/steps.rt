@@ -1,8 +1,8 @@
 //! Instructions of a process.
 ghost use Rattle.std.specs.Prelude.{◌≡◌, ◌==◌, ℕ, IsTrue, IfOk};
 ghost use Rattle.flat_memory.specs.Spaces.{space_of, spaces_of};
-ghost use Rattle.kernel_model.specs.Agrees.{Agrees};
-ghost use Rattle.kernel_model.specs.Instructions.{many};
+ghost use Rattle.linux_model.specs.Agrees.{Agrees};
+ghost use Rattle.linux_model.specs.Instructions.{many};
 ghost use Rattle.rv64_step.specs.Harts.{cpu_of};
 
 use flat_memory::{FlatMemory, TurnSpace};

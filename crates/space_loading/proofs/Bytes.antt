@@ -5,7 +5,7 @@ use Rattle.lego_base.specs.Space.{Space, bytes_at, perms_of}
 use Rattle.elf_image.specs.declared.image.Segment.{Segment}
 use Rattle.elf_image.specs.Image.{IsBoundedSegment}
 use Rattle.space_rules.specs.Mapped.{image_areas_of}
-use Rattle.kernel_model.specs.Boot.{first_byte, last_end}
+use Rattle.space_rules.specs.Pages.{first_byte, last_end}
 use Rattle.call_machine.specs.Effects.{FillsPage}
 use Rattle.space_loading.specs.Pages.{HasPart}
 use Rattle.space_loading.proofs.Laid.{length_is}

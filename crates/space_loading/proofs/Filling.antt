@@ -4,7 +4,7 @@ use Rattle.std.proofs.lemmas.Bool.{eq-eqb, cond-true}
 use Rattle.lego_base.specs.Space.{Space, with_bytes, with_space}
 use Rattle.elf_image.specs.declared.image.Segment.{Segment}
 use Rattle.space_rules.specs.Mapped.{image_areas_of}
-use Rattle.kernel_model.specs.Boot.{filled_pages}
+use Rattle.space_rules.specs.Pages.{filled_pages}
 use Rattle.linux_model.specs.Effects.{Effect, Fills}
 use Rattle.linux_model.specs.Held.{Held, held_after}
 use Rattle.linux_model.specs.Loading.{load_fills, page_fill}

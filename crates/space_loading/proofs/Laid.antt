@@ -5,7 +5,7 @@ use Rattle.std.proofs.lemmas.List.{append-nil, drop_all, ext_get_or, get_or-appe
 use Rattle.lego_base.specs.Pieces.{laid_over}
 use Rattle.lego_base.specs.Space.{Space, bytes_at, with_bytes}
 use Rattle.elf_image.specs.declared.image.Segment.{Segment}
-use Rattle.kernel_model.specs.Boot.{loaded}
+use Rattle.space_rules.specs.Pages.{loaded}
 use Rattle.rv64_step.proofs.Writes.{above-bytes, below-bytes, in-bytes}
 
 pub length_is : (space : Space) (a n : ℕ) → length (bytes_at space a n) ≡ n

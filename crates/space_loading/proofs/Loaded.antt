@@ -6,7 +6,7 @@ use Rattle.elf_image.specs.declared.image.Segment.{Segment}
 use Rattle.elf_image.specs.Image.{Program, IsBoundedSegment}
 use Rattle.space_rules.specs.Mapped.{image_areas_of}
 use Rattle.space_rules.specs.Start.{sp_of, stack_bytes}
-use Rattle.kernel_model.specs.Boot.{filled_pages, pages_met}
+use Rattle.space_rules.specs.Pages.{filled_pages, pages_met}
 use Rattle.linux_model.specs.Effects.{Effect, Maps}
 use Rattle.linux_model.specs.Held.{Held, held_after, held_after_all}
 use Rattle.linux_model.specs.Loading.{cut, load_fills, loads_program, page_fill}

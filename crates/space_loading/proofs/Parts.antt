@@ -9,8 +9,8 @@ use Rattle.elf_image.specs.Image.{IsBoundedSegment}
 use Rattle.space_rules.specs.Mapped.{union, meets, perms_of_loads, image_areas_of, stack_page, stack_pages, read_write}
 use Rattle.space_rules.proofs.Adding.{each}
 use Rattle.space_rules.proofs.Mapping.{image_maps}
-use Rattle.kernel_model.specs.Boot.{file_end, part_start, part_end, has_part, first_byte, last_end, with_numbers, pages_in, filled_pages}
-use Rattle.kernel_model.proofs.Spaces.{if_true, if_false}
+use Rattle.space_rules.specs.Pages.{file_end, part_start, part_end, has_part, first_byte, last_end, with_numbers, pages_in, filled_pages}
+use Rattle.linux_model.proofs.Spaces.{if_true, if_false}
 use Rattle.space_loading.specs.Pages.{next_page, earlier, HasPart}
 use Rattle.space_loading.proofs.Rising.{pages_rise, next_all, row_below, row_next}
 

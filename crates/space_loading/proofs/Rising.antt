@@ -2,8 +2,8 @@
 use Rattle.std.proofs.Common.{◌≡◌, ℕ, zero, suc, ◌+◌, ◌/◌, ◌≤◌, ◌<◌, inl, inr, Bool, true, false, cond, eqb, ltb, min, max, refl, sym, ◌∙◌, ap, subst, List, [], ◌∷◌, Option, Some, None, arith}
 use Rattle.std.proofs.lemmas.Bool.{cases_lt, cases_eq, eq-eqb, ne_eqb, lt-ltb, le-ltb}
 use Rattle.elf_image.specs.declared.image.Segment.{Segment}
-use Rattle.kernel_model.specs.Boot.{with_number, with_numbers, pages_in, filled_pages}
-use Rattle.kernel_model.proofs.Spaces.{if_true, if_false}
+use Rattle.space_rules.specs.Pages.{with_number, with_numbers, pages_in, filled_pages}
+use Rattle.linux_model.proofs.Spaces.{if_true, if_false}
 use Rattle.space_loading.specs.Pages.{next_page, earlier}
 
 -- each is above those before it, and the first isn't below a number

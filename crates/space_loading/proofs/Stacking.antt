@@ -3,7 +3,7 @@ use Rattle.std.proofs.Common.{◌≡◌, ℕ, suc, ◌+◌, ◌-◌, ◌%◌, �
 use Rattle.lego_base.specs.Space.{perms_of}
 use Rattle.space_rules.specs.Mapped.{stack_page, stack_pages}
 use Rattle.space_rules.specs.Standing.{IsWithinStack}
-use Rattle.kernel_model.specs.Boot.{pages_met}
+use Rattle.space_rules.specs.Pages.{pages_met}
 use Rattle.linux_model.specs.Effects.{Effect, Fills}
 use Rattle.linux_model.specs.Held.{Held}
 use Rattle.linux_model.specs.Loading.{cut}

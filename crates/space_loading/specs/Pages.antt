@@ -1,7 +1,7 @@
 -- Pages that are filled one after the other.
 use Rattle.std.specs.Prelude.{◌≡◌, ◌⊎◌, ℕ, nat_lt, min, true, if◌then◌else◌, List, [], ◌∷◌, Option, Some, None}
 use Rattle.elf_image.specs.declared.image.Segment.{Segment}
-use Rattle.kernel_model.specs.Boot.{has_part}
+use Rattle.space_rules.specs.Pages.{has_part}
 
 -- the first of some pages that isn't below a page
 abbrev pub next_page : ℕ → List ℕ → Option ℕ

@@ -4,7 +4,7 @@ ghost use Rattle.std.specs.Prelude.{◌≡◌, ◌+◌, ◌-◌, ◌/◌, ◌<�
 ghost use Rattle.lego_base.specs.Pieces.{laid_over};
 ghost use Rattle.lego_base.specs.Space.{bytes_at, Space, with_bytes};
 ghost use Rattle.elf_image.specs.Image.{IsBoundedSegment};
-ghost use Rattle.kernel_model.specs.Boot.{filled_pages, first_byte, last_end, loaded, pages_in, part_end, part_start, with_numbers};
+ghost use Rattle.space_rules.specs.Pages.{filled_pages, first_byte, last_end, loaded, pages_in, part_end, part_start, with_numbers};
 ghost use Rattle.space_loading.specs.Pages.{earlier, HasPart, next_page};
 
 use elf_image::Segment;

@@ -2,7 +2,7 @@
 
 ghost use Rattle.std.specs.Prelude.{◌≡◌, ℕ, ◌+◌, ◌<◌, ◌≤◌, length, IsSome, OnOk};
 ghost use Rattle.lego_base.specs.Space.{perms_of};
-ghost use Rattle.kernel_model.specs.Boot.{pages_met};
+ghost use Rattle.space_rules.specs.Pages.{pages_met};
 ghost use Rattle.space_rules.specs.Mapped.{stack_page, stack_pages};
 ghost use Rattle.space_rules.specs.Standing.{IsWithinStack};
 ghost use Rattle.linux_model.specs.Loading.{cut};

@@ -6,6 +6,7 @@ use Rattle.area_list.specs.Runs.{put_runs}
 use Rattle.area_list.specs.Gap.{lowest_gap}
 use Rattle.elf_image.specs.declared.image.Segment.{Segment}
 use Rattle.space_rules.specs.Start.{is_too_big, sp_of, stack_bytes}
+use Rattle.space_rules.specs.Pages.{filled_pages, first_byte, last_end, loaded, pages_met}
 use Rattle.space_rules.specs.Place.{place_of}
 use Rattle.space_rules.specs.Mapped.{image_areas_of}
 
@@ -87,3 +88,25 @@ segment vaddr memsz bits = record { vaddr = vaddr; memsz = memsz; perms = record
 begins_with : image_areas_of (segment 0x10000 0x1800 5 ∷ segment 0x11800 0x1000 3 ∷ []) ≡ run 16 1 5 ∷ run 17 1 7 ∷ run 18 1 3 ∷ run 0x3FFFEF0 256 3 ∷ []
 unfolding put_runs
 begins_with = refl
+
+-- two loads in one page, the higher one first in the file, and one whose bytes go on in the next page
+abbrev load : ℕ → List ℕ → Segment
+load vaddr bytes = record { vaddr = vaddr; memsz = 16; perms = record { 0 = 5 }; bytes = bytes }
+
+abbrev loads : List Segment
+loads = load 0x20ffe (7 ∷ 8 ∷ 9 ∷ []) ∷ load 0x10004 (3 ∷ []) ∷ load 0x10000 (1 ∷ 2 ∷ []) ∷ load 0x30000 [] ∷ []
+
+pages_in_rising_order : filled_pages loads ≡ 0x10 ∷ 0x20 ∷ 0x21 ∷ []
+pages_in_rising_order = refl
+
+from_the_first_byte_to_the_last : (first_byte loads 0x10 ≡ 0x10000) × (last_end loads 0x10 ≡ 0x10005)
+from_the_first_byte_to_the_last = (refl, refl)
+
+zeros_between_loads : (loaded loads 0x10001 ≡ 2) × (loaded loads 0x10002 ≡ 0) × (loaded loads 0x10004 ≡ 3)
+zeros_between_loads = (refl, refl, refl)
+
+cut_where_the_page_ends : (last_end loads 0x20 ≡ 0x21000) × (first_byte loads 0x21 ≡ 0x21000) × (last_end loads 0x21 ≡ 0x21001)
+cut_where_the_page_ends = (refl, refl, refl)
+
+a_stack_meets_the_page_after : (pages_met 0x20ffe 2 ≡ 1) × (pages_met 0x20ffe 3 ≡ 2)
+a_stack_meets_the_page_after = (refl, refl)

@@ -3,3 +3,4 @@ pub mod Standing
 pub mod Told
 pub mod Mapped
 pub mod Place
+pub mod Pages

@@ -4,7 +4,8 @@
 //! The pages are `image_areas_of` of `specs/Mapped`, the stack is `sp_of` and `stack_bytes` of `specs/Start`
 //! (the System V ABI's process initialization), the place is `place_of` of `specs/Place`. [`image_areas`],
 //! [`stack_image`] and [`place`] give exactly these. That the definitions say what their names say, page by
-//! page and address by address, is promised in `laws`.
+//! page and address by address, is promised in `laws`. `specs/Pages` says which bytes the loads have in which pages; it is for
+//! those who load an image a page at a time.
 #![tactic(auto)]
 
 mod image;

@@ -6,7 +6,7 @@ use Rattle.rv64_step.specs.declared.cpu.Cpu.{Cpu}
 use Rattle.elf_image.specs.declared.image.Segment.{Segment}
 use Rattle.elf_image.specs.Image.{Program, first_fault, program_of}
 use Rattle.space_rules.specs.Start.{sp_of, stack_bytes}
-use Rattle.kernel_model.specs.Boot.{filled_pages, pages_met, start_of}
+use Rattle.space_rules.specs.Pages.{filled_pages, pages_met}
 use Rattle.linux_model.specs.Limits.{ENOEXEC}
 use Rattle.linux_model.specs.State.{Kernel, Process}
 use Rattle.linux_model.specs.Processes.{fds_of, process}
@@ -16,7 +16,7 @@ use Rattle.linux_model.specs.Descriptors.{closings}
 use Rattle.linux_model.specs.Fits.{NamesFit}
 use Rattle.linux_model.specs.Held.{Held, with_held}
 use Rattle.linux_model.specs.Laws.{Still}
-use Rattle.linux_model.specs.Loading.{cut, load_fills, loads_program, page_fill, stack_fills}
+use Rattle.linux_model.specs.Loading.{start_of, cut, load_fills, loads_program, page_fill, stack_fills}
 use Rattle.linux_model.specs.Managed.{Managed, managed_after, managed_after_all}
 use Rattle.linux_model.specs.Paths.{Found}
 use Rattle.linux_model.specs.ProcessCalls.{Strings, executes, executes_found, if_no_fault, list_at, with_strings}

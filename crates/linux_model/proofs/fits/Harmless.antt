@@ -9,7 +9,7 @@ use Rattle.rv64_step.specs.declared.cpu.Cpu.{Cpu}
 use Rattle.rv64_step.specs.declared.cpu.StepEnd.{StepEnd}
 use Rattle.rv64_step.specs.declared.cpu.StepEnd.TheVariants.{Next, Call, Dead}
 use Rattle.rv64_step.specs.Meaning.{Asks, Ends, Loads, Stores, asks}
-use Rattle.kernel_model.specs.Boot.{filled_pages, pages_met}
+use Rattle.space_rules.specs.Pages.{filled_pages, pages_met}
 use Rattle.space_rules.specs.Start.{sp_of, stack_bytes}
 use Rattle.kernel_objects.specs.declared.piece.Piece.{Piece}
 use Rattle.linux_model.specs.Limits.{E2BIG}

@@ -6,7 +6,6 @@ use Rattle.rv64_step.specs.declared.cpu.StepEnd.{StepEnd}
 use Rattle.rv64_step.specs.declared.cpu.StepEnd.TheVariants.{Next, Call as AtCall, Dead as DeadBy}
 use Rattle.rv64_step.specs.Meaning.{next_pc, with_reg}
 use Rattle.kernel_objects.specs.declared.process.Waiting.{Waiting}
-use Rattle.kernel_model.specs.Boot.{start_of}
 use Rattle.linux_model.specs.State.{Kernel, Process, unbooted}
 use Rattle.linux_model.specs.Processes.{process, fds_of, is_live}
 use Rattle.linux_model.specs.Effects.{Effect, Begins, Starts, Returns, Keeps, Dies, Drops, applies}
@@ -14,7 +13,7 @@ use Rattle.linux_model.specs.Called.{Called, Gives, Becomes, Waits, Death}
 use Rattle.linux_model.specs.Descriptors.{arg, closings}
 use Rattle.linux_model.specs.ProcessCalls.{dying}
 use Rattle.linux_model.specs.Instructions.{Ran}
-use Rattle.linux_model.specs.Loading.{loads_program, break_of, start_space}
+use Rattle.linux_model.specs.Loading.{start_of, loads_program, break_of, start_space}
 use Rattle.linux_model.specs.Boot.{boot_of, boot_effects, file_effects, standard_streams}
 use Rattle.linux_model.specs.Calls.{Call, Dup, Dup3, Unlinkat, Ftruncate, Openat, Close, Pipe2, Lseek, Read, Write, Readv, Writev, Pread64, Pwrite64, Exit, ExitGroup, SetTidAddress, SchedYield, GetPid, GetPpid, GetTid, BrkCall, Munmap, Clone, Execve, Mmap, Mprotect, Wait4, call_by, row, called, call_effects}
 use Rattle.linux_model.specs.Turns.{Schedule, flat, turn, turn_of, acts, at_stop, run_of, whose, chosen, ready, ready_in, is_ready}
@@ -119,11 +118,11 @@ acts_allowed schedule p None k f is l =
 acts_allowed schedule p (Some w) k f is l = call_allowed p k f is (found_lives k.procs p.pid p l is)
 
 -- who has the turn lives
-abbrev Has : ℕ → List ℕ → Type 0
+abbrev pub Has : ℕ → List ℕ → Type 0
 Has n [] = ⊥
 Has n (m ∷ numbers) = (n ≡ m) ⊎ Has n numbers
 
-above_low : (k : Kernel) (low last : ℕ) (procs : List Process) (pid : ℕ) → PidsRise low last procs → Has pid (ready_in k procs) → low < pid
+pub above_low : (k : Kernel) (low last : ℕ) (procs : List Process) (pid : ℕ) → PidsRise low last procs → Has pid (ready_in k procs) → low < pid
 above_low k low last [] pid r has = absurd has
 above_low k low last (q ∷ procs) pid r has = by (is_ready k q) has (above_low k q.pid last procs pid r.2)
   where
@@ -141,7 +140,7 @@ ready_lives k low last (q ∷ procs) pid r has = by (is_ready k q) refl has (rea
     by true e (inr has) more high = ((λ is. (and_parts (is_live q.state) _ e).0), more has)
     by false e has more high = ((λ is. let same : q.pid ≡ pid = eqb-true q.pid pid is in let h : q.pid < pid = high has in absurd (omega arith)), more has)
 
-has_index : (pids : List ℕ) (i : ℕ) → i < length pids → Has (slice_index pids i) pids
+pub has_index : (pids : List ℕ) (i : ℕ) → i < length pids → Has (slice_index pids i) pids
 has_index [] i h = absurd (omega arith)
 has_index (pid ∷ pids) zero h = inl refl
 has_index (pid ∷ pids) (suc i) h = inr (has_index pids i (omega arith))

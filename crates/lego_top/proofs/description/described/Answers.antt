@@ -1,9 +1,9 @@
-use Rattle.std.proofs.Common.{◌≡◌, ◌<◌, ℕ, List, length, refl, sym, ◌∙◌, ap, subst, rules}
+use Rattle.std.proofs.Common.{ℕ, List, refl, sym, ◌∙◌, ap, subst}
 use Rattle.desc_read.specs.Faults.{Fails}
 use Rattle.desc_read.specs.Plans as plans
 use Rattle.lego_top.specs.Outside.{with_depot}
 use Rattle.lego_top.specs.Endings.{of_description}
-use Rattle.lego_top.proofs.Causes.{none_left, quiet_depot, misdescribed, described_with}
+use Rattle.lego_top.proofs.Causes.{quiet_depot, misdescribed, described_with}
 use Rattle.lego_top.proofs.description.described.Goals as goal
 
 pub returns-in_err-plan-clause-described : goal.returns-in_err-plan-clause-described
@@ -12,25 +12,12 @@ returns-in_err-plan-clause-described g c = λ world.
     (misdescribed _ (with_depot world (g.D.Depot.state c.args.depot.now)) (with_depot world (g.D.Depot.state c.fetch.new.depot)) (record { name = c.args.name.now; bytes = c.in_ok-bytes.bytes; is_asked = refl; there = c.in_ok-bytes.ensures.fetched.0; fits = c.in_ok-bytes.ensures.fetched.1 }) c.in_err-plan.field-0.0 (quiet_depot world (g.D.Depot.state c.args.depot.now) (g.D.Depot.state c.fetch.new.depot) c.in_ok-bytes.ensures.same) refl
     (subst (λ (bytes : List ℕ). Fails c.in_err-plan.field-0.0 (plans.described bytes)) c.as_slice.ensures c.in_err-plan.ensures))
 
-pub returns-then-not-is_empty-clause-described : goal.returns-then-not-is_empty-clause-described
-returns-then-not-is_empty-clause-described g c = λ world.
-    let some : 0 < length c.in_ok-plan.plan.files = search rules in (
-      record { name = c.args.name.now; bytes = c.in_ok-bytes.bytes; is_asked = refl; there = c.in_ok-bytes.ensures.fetched.0; fits = c.in_ok-bytes.ensures.fetched.1 },
-      c.in_ok-plan.plan,
-      ap plans.described (sym c.as_slice.ensures) ∙ c.in_ok-plan.ensures,
-      some,
-      quiet_depot world (g.D.Depot.state c.args.depot.now) (g.D.Depot.state c.fetch.new.depot) c.in_ok-bytes.ensures.same,
-      refl,
-    )
-
 pub returns-clause-described : goal.returns-clause-described
-returns-clause-described g c = λ world.
-    let none : length c.in_ok-plan.plan.files ≡ 0 = search rules in (
-      record {
-        found = record { name = c.args.name.now; bytes = c.in_ok-bytes.bytes; is_asked = refl; there = c.in_ok-bytes.ensures.fetched.0; fits = c.in_ok-bytes.ensures.fetched.1 };
-        plan = c.in_ok-plan.plan;
-        reads = ap plans.described (sym c.as_slice.ensures) ∙ c.in_ok-plan.ensures;
-        built = none_left c.in_ok-plan.plan.files none;
-      },
-      refl,
-    )
+returns-clause-described g c = λ world. (
+  record {
+    found = record { name = c.args.name.now; bytes = c.in_ok-bytes.bytes; is_asked = refl; there = c.in_ok-bytes.ensures.fetched.0; fits = c.in_ok-bytes.ensures.fetched.1 };
+    plan = c.in_ok-plan.plan;
+    reads = ap plans.described (sym c.as_slice.ensures) ∙ c.in_ok-plan.ensures;
+  },
+  refl,
+)

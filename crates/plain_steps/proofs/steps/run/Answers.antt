@@ -5,8 +5,8 @@ use Rattle.rv64_step.specs.declared.cpu.StepEnd.TheVariants.{Next, Call, Dead}
 use Rattle.rv64_step.specs.Harts.{cpu_of}
 use Rattle.lego_base.specs.declared.ids.Pid.{Pid}
 use Rattle.flat_memory.specs.Spaces.{space_of}
-use Rattle.kernel_model.specs.Instructions.{many}
-use Rattle.kernel_model.proofs.Running.{next_one, last_call, last_dead}
+use Rattle.linux_model.specs.Instructions.{many}
+use Rattle.linux_model.proofs.Running.{next_one, last_call, last_dead}
 use Rattle.plain_steps.proofs.Stepped.{served, stepped_to, step_pid}
 use Rattle.plain_steps.proofs.steps.run.Goals as goal
 

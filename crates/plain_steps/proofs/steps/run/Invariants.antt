@@ -1,8 +1,8 @@
 use Rattle.std.proofs.Common.{◌≡◌, ◌-◌}
 use Rattle.rv64_step.specs.Harts.{cpu_of}
 use Rattle.flat_memory.specs.Spaces.{space_of}
-use Rattle.kernel_model.specs.Instructions.{many}
-use Rattle.kernel_model.proofs.Running.{EndsAs}
+use Rattle.linux_model.specs.Instructions.{many}
+use Rattle.linux_model.proofs.Running.{EndsAs}
 use Rattle.plain_steps.proofs.steps.run.Given as goal
 
 -- what is left to run ends as the whole does

@@ -6,8 +6,8 @@ use Rattle.lego_base.specs.Space.{Space}
 use Rattle.rv64_step.specs.declared.cpu.Cpu.{Cpu}
 use Rattle.rv64_step.specs.Harts.{cpu_of}
 use Rattle.flat_memory.specs.Spaces.{space_of, spaces_of}
-use Rattle.kernel_model.specs.Agrees.{Agrees}
-use Rattle.kernel_model.specs.Instructions.{many}
+use Rattle.linux_model.specs.Agrees.{Agrees}
+use Rattle.linux_model.specs.Instructions.{many}
 use Rattle.plain_steps.proofs.steps.run_some.Goals as goal
 
 pub returns-clause-ran : goal.returns-clause-ran

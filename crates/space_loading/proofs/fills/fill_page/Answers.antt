@@ -1,5 +1,5 @@
 use Rattle.std.proofs.Common.{◌∙◌, [], ◌∷◌, arith}
-use Rattle.kernel_model.specs.Boot.{loaded}
+use Rattle.space_rules.specs.Pages.{loaded}
 use Rattle.linux_model.specs.Loading.{page_fill}
 use Rattle.space_loading.proofs.Bytes.{fills_page}
 use Rattle.space_loading.proofs.Parts.{has_bytes, last_below}

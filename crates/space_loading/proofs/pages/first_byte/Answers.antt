@@ -1,6 +1,6 @@
 use Rattle.std.proofs.Common.{sym, ◌∙◌, ap, List, drop}
 use Rattle.elf_image.specs.declared.image.Segment.{Segment}
-use Rattle.kernel_model.specs.Boot.{first_byte}
+use Rattle.space_rules.specs.Pages.{first_byte}
 use Rattle.space_loading.proofs.Parts.{first_same}
 use Rattle.space_loading.proofs.Stepping.{drop_step}
 use Rattle.space_loading.proofs.pages.first_byte.Goals as goal

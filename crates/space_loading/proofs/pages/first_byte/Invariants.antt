@@ -1,5 +1,5 @@
 use Rattle.std.proofs.Common.{◌≡◌, drop}
-use Rattle.kernel_model.specs.Boot.{first_byte}
+use Rattle.space_rules.specs.Pages.{first_byte}
 use Rattle.space_loading.proofs.pages.first_byte.Given as goal
 
 -- the first byte of the loads from here on

@@ -1,6 +1,6 @@
 use Rattle.std.proofs.Common.{sym, ◌∙◌, ap, List, drop}
 use Rattle.elf_image.specs.declared.image.Segment.{Segment}
-use Rattle.kernel_model.specs.Boot.{last_end}
+use Rattle.space_rules.specs.Pages.{last_end}
 use Rattle.space_loading.proofs.Parts.{last_same}
 use Rattle.space_loading.proofs.Stepping.{drop_step}
 use Rattle.space_loading.proofs.pages.last_end.Goals as goal

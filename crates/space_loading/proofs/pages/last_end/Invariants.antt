@@ -1,5 +1,5 @@
 use Rattle.std.proofs.Common.{◌≡◌, drop}
-use Rattle.kernel_model.specs.Boot.{last_end}
+use Rattle.space_rules.specs.Pages.{last_end}
 use Rattle.space_loading.proofs.pages.last_end.Given as goal
 
 -- the last byte's end of the loads from here on

@@ -2,7 +2,7 @@ use Rattle.std.proofs.Common.{◌≡◌, ◌-◌, sym, ◌∙◌, ap, List, [], 
 use Rattle.std.proofs.Math.Seq.{drop-length}
 use Rattle.lego_base.specs.Space.{bytes_at}
 use Rattle.elf_image.specs.declared.image.Segment.{Segment}
-use Rattle.kernel_model.specs.Boot.{loaded}
+use Rattle.space_rules.specs.Pages.{loaded}
 use Rattle.space_loading.proofs.Laid.{lays, length_is, zeros_are}
 use Rattle.space_loading.proofs.Stepping.{drop_step}
 use Rattle.space_loading.proofs.pages.loaded_between.Goals as goal

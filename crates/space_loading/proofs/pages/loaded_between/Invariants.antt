@@ -1,6 +1,6 @@
 use Rattle.std.proofs.Common.{◌≡◌, ◌-◌, [], drop}
 use Rattle.lego_base.specs.Space.{bytes_at}
-use Rattle.kernel_model.specs.Boot.{loaded}
+use Rattle.space_rules.specs.Pages.{loaded}
 use Rattle.space_loading.proofs.pages.loaded_between.Given as goal
 
 -- the bytes of the loads from here on

@@ -1,6 +1,6 @@
 use Rattle.std.proofs.Common.{◌≡◌, ℕ, ◌/◌, ◌^◌, ◌<◌, ◌≤◌, sym, ◌∙◌, ap, List, drop}
 use Rattle.elf_image.specs.declared.image.Segment.{Segment}
-use Rattle.kernel_model.specs.Boot.{filled_pages, pages_in}
+use Rattle.space_rules.specs.Pages.{filled_pages, pages_in}
 use Rattle.space_rules.proofs.Adding.{each}
 use Rattle.space_loading.specs.Pages.{earlier, next_page, HasPart}
 use Rattle.space_loading.proofs.Parts.{next_part, part_low}

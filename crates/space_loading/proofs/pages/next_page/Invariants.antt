@@ -1,5 +1,5 @@
 use Rattle.std.proofs.Common.{◌≡◌, drop}
-use Rattle.kernel_model.specs.Boot.{filled_pages}
+use Rattle.space_rules.specs.Pages.{filled_pages}
 use Rattle.space_loading.specs.Pages.{next_page}
 use Rattle.space_loading.proofs.pages.next_page.Given as goal
 

@@ -1,5 +1,0 @@
-use Rattle.kernel_model.proofs.Flat.{flat_is}
-use Rattle.kernel_model.proofs.run_is_its_effects.Goals as goal
-
-pub returns : goal.returns
-returns c = flat_is

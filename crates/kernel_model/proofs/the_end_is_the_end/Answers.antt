@@ -1,5 +1,0 @@
-use Rattle.kernel_model.proofs.Growth.{end_stays}
-use Rattle.kernel_model.proofs.the_end_is_the_end.Goals as goal
-
-pub returns : goal.returns
-returns c = end_stays
