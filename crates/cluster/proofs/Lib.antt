@@ -17,4 +17,6 @@ pub mod Settings
 pub mod Telling
 pub mod Cloning
 pub mod Cloned
+pub mod Reaching
+pub mod Filled
 mod Rows

@@ -12,3 +12,5 @@ pub mod Askings
 pub mod Dropping
 pub mod Mapping
 pub mod Copying
+pub mod Permitted
+pub mod Filling

@@ -2,7 +2,7 @@
 
 ghost use Rattle.std.specs.Prelude.{◌≡◌, ◌<◌, ◌≤◌, [], Bool, IfErr, IfOk, List, None, OnErr, OnOk, Some, false, length, true};
 ghost use Rattle.lego_base.specs.Keys.{is_of, those};
-ghost use Rattle.lego_msg.specs.Maps.{home_key};
+ghost use Rattle.lego_msg.specs.Maps.{home_key, owner_of};
 ghost use Rattle.lego_msg.specs.Marks.{Mark};
 ghost use Rattle.lego_msg.specs.declared.event.Event.TheVariants.{Turn};
 ghost use Rattle.lego_msg.specs.Files.{no_files};
@@ -13,7 +13,7 @@ ghost use Rattle.placement.specs.Owners.{entries_of, inherited, mapped, no_owner
 ghost use Rattle.cluster.specs.Whole.{or_out_of_memory, track_at};
 ghost use Rattle.protocol_engine.specs.Beyond.{Beyond, beginning};
 
-use lego_base::{Halt, HomeEntry, NoMemory, Pid, RegionNo, Seq, Shape};
+use lego_base::{Halt, HomeEntry, MemId, NoMemory, Pid, RegionNo, Seq, Shape};
 use lego_msg::{Operation, Place, Watch};
 use protocol_engine::{Engine, Running, boot};
 use std::alloc::Global;
@@ -96,6 +96,13 @@ impl Cluster {
         ensures { IfOk result (λ entries. entries ≡ those home_key (is_of pid.0) self.now.table.owners) }
     {
         self.engine.table.of_process(alloc, pid)
+    }
+
+    // The owner of a region, by the table.
+    pub(crate) fn owner(&self, pid: Pid, region: RegionNo) -> Option<MemId>
+        ensures { result ≡ owner_of self.now.table.owners pid.0 region.0 }
+    {
+        self.engine.table.owner(pid, region)
     }
 
     // Gives those of these regions of a process that have no owner theirs, by turns and in their order.

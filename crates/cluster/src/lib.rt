@@ -12,6 +12,7 @@ mod changes;
 mod cluster;
 mod copies;
 mod files;
+mod fills;
 mod lines;
 mod lists;
 mod mappings;
@@ -20,6 +21,7 @@ mod reads;
 mod regions;
 mod runs;
 mod spaces;
+mod spans;
 
 pub use cluster::Cluster;
 pub use reads::{LineIn, LineRead};
