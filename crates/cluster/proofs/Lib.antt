@@ -19,4 +19,7 @@ pub mod Cloning
 pub mod Cloned
 pub mod Reaching
 pub mod Filled
+pub mod Cutting
+pub mod Unmapping
+pub mod Unmapped
 mod Rows

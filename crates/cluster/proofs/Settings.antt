@@ -90,7 +90,7 @@ module _ (f : Plain) (lists : (pid region : ℕ) → IsRegionList region (f.area
       ∙ ap (λ (l : List Area). l ++ listed_in region (areas_among f entries)) (listed_other e.region.0 region (f.areas e.pid.0 e.region.0) elsewhere.0 (lists e.pid.0 e.region.0))
       ∙ among_none region entries elsewhere.1
 
-  among_one : (pid region : ℕ) (entries : List HomeEntry) → AllByRecursion (λ (e : HomeEntry). e.pid.0 ≡ pid) entries → Rises home_key entries → Listed pid region entries → listed_in region (areas_among f entries) ≡ f.areas pid region
+  pub among_one : (pid region : ℕ) (entries : List HomeEntry) → AllByRecursion (λ (e : HomeEntry). e.pid.0 ≡ pid) entries → Rises home_key entries → Listed pid region entries → listed_in region (areas_among f entries) ≡ f.areas pid region
   among_one pid region [] mine rise listed = absurd listed
   among_one pid region (e ∷ entries) mine rise (inl is) =
       listed-append region (f.areas e.pid.0 e.region.0) (areas_among f entries)

@@ -14,3 +14,5 @@ pub mod Mapping
 pub mod Copying
 pub mod Permitted
 pub mod Filling
+pub mod Unmapping
+pub mod Apart

@@ -109,7 +109,7 @@ impl Cluster {
     }
 
     // Those entries of a process's regions that bytes meet.
-    fn entries_met(
+    pub(crate) fn entries_met(
         &self,
         alloc: Global,
         pid: Pid,

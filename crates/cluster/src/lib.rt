@@ -11,19 +11,23 @@ mod blocks;
 mod changes;
 mod cluster;
 mod copies;
+mod cuts;
 mod files;
 mod fills;
 mod lines;
 mod lists;
 mod mappings;
 mod names;
+mod parts;
 mod reads;
 mod regions;
 mod runs;
 mod spaces;
 mod spans;
+mod unmaps;
 
 pub use cluster::Cluster;
+pub use parts::{ClusterParts, Pace};
 pub use reads::{LineIn, LineRead};
 
 #[cfg(test)]
