@@ -22,8 +22,8 @@ use std::marker::Model;
 /// Memories, storage and the network between them, with the manager's table of owners.
 #[derive(Drop)]
 pub struct Cluster {
-    engine: Engine,
-    halt: Option<Halt>, // once a call halted, each further one gives that halt
+    pub(crate) engine: Engine,
+    pub(crate) halt: Option<Halt>, // once a call halted, each further one gives that halt
 }
 
 impl Model for Cluster {

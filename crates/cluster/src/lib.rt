@@ -7,6 +7,7 @@
 
 mod askings;
 mod asks;
+mod assembly;
 mod blocks;
 mod changes;
 mod cluster;
@@ -18,7 +19,6 @@ mod lines;
 mod lists;
 mod mappings;
 mod names;
-mod parts;
 mod reads;
 mod regions;
 mod runs;
@@ -26,8 +26,8 @@ mod spaces;
 mod spans;
 mod unmaps;
 
+pub use assembly::{ClusterParts, Pace};
 pub use cluster::Cluster;
-pub use parts::{ClusterParts, Pace};
 pub use reads::{LineIn, LineRead};
 
 #[cfg(test)]
