@@ -8,7 +8,7 @@ ghost use Rattle.area_list.specs.Runs.{cut_runs};
 ghost use Rattle.linux_model.specs.Limits.{RUNS};
 ghost use Rattle.linux_model.specs.Effects.{Effect, AsksSize, AsksSpace, AsksSpan, Copies, CopyOut, CutsFile, Drops, Fills, FreesFile, LooksUp, MakesFile, Maps, Protects, Puts, ReadsFile, Unlinks, Unmaps, Writes, WritesFile};
 ghost use Rattle.linux_model.specs.Held.{Held};
-ghost use Rattle.call_machine.specs.Effects.{copied, copied_in, made_file, FillsPage, KeepsPages};
+ghost use Rattle.call_machine.specs.Effects.{copied, copied_in, made_file, FillsPage, KeepsBeside, KeepsPages};
 
 use area_list::Areas;
 use kernel_objects::Stream;
@@ -58,7 +58,7 @@ pub trait Machine {
         ensures does { OnOk result (does self.old self.new (Writes CopyOut pid.0 at bytes.now ∷ [])) }
         ensures stops { stops self.old self.new (Writes CopyOut pid.0 at bytes.now ∷ []) };
 
-    /// The areas of a process become these, with more pages mapped.
+    /// The areas of a process become these, with more pages mapped. A page that is mapped keeps its permissions.
     fn map(&mut self, pid: Pid, areas: Areas) -> Result<(), Halt>
         requires keeps { KeepsPages ((held self.old).space pid.0).areas areas }
         ensures does { OnOk result (does self.old self.new (Maps pid.0 areas ∷ [])) }
@@ -66,7 +66,7 @@ pub trait Machine {
 
     /// The areas of a process become these, once the permissions of `pages` pages starting at `first` have changed.
     fn protect(&mut self, pid: Pid, first: Vpn, pages: u64, areas: Areas) -> Result<(), Halt>
-        requires keeps { KeepsPages ((held self.old).space pid.0).areas areas }
+        requires keeps { KeepsBeside first.0 pages ((held self.old).space pid.0).areas areas }
         requires within { first.0 + pages ≤ PAGES_END }
         ensures does { OnOk result (does self.old self.new (Protects pid.0 first.0 pages areas ∷ [])) }
         ensures stops { stops self.old self.new (Protects pid.0 first.0 pages areas ∷ []) };

@@ -1,11 +1,11 @@
 //! Pages, and areas with more or fewer of them.
 
-ghost use Rattle.std.specs.Prelude.{◌≡◌, ◌+◌, ◌<◌, ◌≤◌, true, not, nat_lt, length};
+ghost use Rattle.std.specs.Prelude.{◌≡◌, ◌+◌, ◌<◌, ◌≤◌, ℕ, None, Some, true, not, nat_lt, length};
+ghost use Rattle.lego_base.specs.Space.{perms_of as perms_at};
 ghost use Rattle.lego_base.specs.declared.sizes.TheConstants.{PAGES_END, USER_END};
-ghost use Rattle.area_list.specs.Runs.{put_runs, cut_runs};
+ghost use Rattle.area_list.specs.Runs.{cut_runs, in_range, put_runs};
 ghost use Rattle.space_rules.specs.Place.{pages_for};
 ghost use Rattle.linux_model.specs.SpaceCalls.{has_many_runs, is_free, is_past_limits, perms};
-ghost use Rattle.call_machine.specs.Effects.{KeepsPages};
 
 use area_list::Areas;
 use bitflags::Flags;
@@ -47,13 +47,12 @@ pub(crate) fn is_free(areas: &Areas, first: Vpn, pages: u64) -> bool
     }
 }
 
-// Maps `pages` pages, starting at `first`, unless there are then more runs than a process may have. What is mapped stays
-// mapped.
+// Maps `pages` pages, starting at `first`, unless there are then more runs than a process may have.
 pub(crate) fn put_few(areas: &mut Areas, first: Vpn, pages: u64, perms: Perms) -> bool
     requires { first.0 + pages ≤ PAGES_END }
     ensures few { result ≡ not (has_many_runs (put_runs first.0 pages perms areas.old)) }
     ensures put { result ≡ true → areas.new ≡ put_runs first.0 pages perms areas.old }
-    ensures keeps { result ≡ true → KeepsPages areas.old areas.new }
+    ensures sets { result ≡ true → (page : ℕ) → perms_at areas.new page ≡ in_range first.0 pages page (Some perms) (perms_at areas.old page) }
 {
     areas.put(first, pages, perms).is_ok()
 }
@@ -63,7 +62,7 @@ pub(crate) fn put_within(areas: &mut Areas, first: Vpn, pages: u64, perms: Perms
     requires { first.0 + pages ≤ PAGES_END }
     ensures within { result ≡ not (is_past_limits (put_runs first.0 pages perms areas.old)) }
     ensures put { result ≡ true → areas.new ≡ put_runs first.0 pages perms areas.old }
-    ensures keeps { result ≡ true → KeepsPages areas.old areas.new }
+    ensures sets { result ≡ true → (page : ℕ) → perms_at areas.new page ≡ in_range first.0 pages page (Some perms) (perms_at areas.old page) }
 {
     put_few(areas, first, pages, perms) && areas.pages() <= MOST_PAGES
 }
@@ -73,6 +72,7 @@ pub(crate) fn cut_few(areas: &mut Areas, first: Vpn, pages: u64) -> bool
     requires { first.0 + pages ≤ PAGES_END }
     ensures few { result ≡ not (has_many_runs (cut_runs first.0 pages areas.old)) }
     ensures cut { result ≡ true → areas.new ≡ cut_runs first.0 pages areas.old }
+    ensures clears { result ≡ true → (page : ℕ) → perms_at areas.new page ≡ in_range first.0 pages page None (perms_at areas.old page) }
 {
     areas.cut(first, pages).is_ok()
 }
@@ -82,6 +82,7 @@ pub(crate) fn cut_within(areas: &mut Areas, first: Vpn, pages: u64) -> bool
     requires { first.0 + pages ≤ PAGES_END }
     ensures within { result ≡ not (is_past_limits (cut_runs first.0 pages areas.old)) }
     ensures cut { result ≡ true → areas.new ≡ cut_runs first.0 pages areas.old }
+    ensures clears { result ≡ true → (page : ℕ) → perms_at areas.new page ≡ in_range first.0 pages page None (perms_at areas.old page) }
 {
     cut_few(areas, first, pages) && areas.pages() <= MOST_PAGES
 }

@@ -1,11 +1,20 @@
-use Rattle.std.proofs.Common.{rules, ◌≡◌, ◌-◌, refl, [], ◌∷◌}
+use Rattle.std.proofs.Common.{rules, ◌≡◌, ◌∙◌, ◌-◌, List, ap, refl, subst, sym, [], ◌∷◌}
+use Rattle.lego_base.specs.declared.records.Area.{Area}
+use Rattle.call_machine.specs.Effects.{KeepsPages}
+use Rattle.linux_model.specs.Held.{Held}
 use Rattle.space_rules.specs.Place.{pages_for}
 use Rattle.linux_model.specs.Effects.{AsksSpace, Breaks, Maps}
 use Rattle.linux_model.specs.Called.{Gives, following}
 use Rattle.linux_model.specs.SpaceCalls.{brk_between, grows}
 use Rattle.sys_space.specs.Calls.{kernel_with, with_break, with_pid}
 use Rattle.sys_space.proofs.Row.{asked, break_answered, done, stopped}
+use Rattle.sys_space.proofs.Free.{put_keeps}
 use Rattle.sys_space.proofs.breaks.grow.Goals as goal
+
+pub map-requires : goal.map-requires
+map-requires g c =
+    let same = c.in_ok-areas.ensures.answer ∙ sym (ap (λ (h : Held). (h.space c.args.pid.0).areas) (g.met.M.Machine.lawful.holds _ _ (AsksSpace c.args.pid.0 ∷ []) c.in_ok-areas.ensures.does)) in
+    record { keeps = subst (λ (areas : List Area). KeepsPages areas c.put_within.new.areas) same (put_keeps _ _ _ c.in_ok-areas.areas c.put_within.new.areas (c.if-not-put_within.ensures.sets refl) (sym c.if-not-is_free.ensures)) }
 
 pub returns-in_err-areas-clause-stops : goal.returns-in_err-areas-clause-stops
 returns-in_err-areas-clause-stops g c p k =
