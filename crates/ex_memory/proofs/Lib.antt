@@ -1,0 +1,15 @@
+pub mod Slots
+pub mod Keeping
+pub mod Standing
+pub mod Doing
+pub mod Asked
+pub mod Spaces
+pub mod Ending
+pub mod OfFiles
+pub mod Turning
+pub mod Joining
+pub mod Asking
+pub mod Booting
+pub mod Permitting
+pub mod Rising
+pub mod Filing
