@@ -13,3 +13,4 @@ pub mod Booting
 pub mod Permitting
 pub mod Rising
 pub mod Filing
+pub mod Small

@@ -6,3 +6,4 @@ pub mod Did
 pub mod Accesses
 pub mod FileCalls
 pub mod Turns
+pub mod Tried

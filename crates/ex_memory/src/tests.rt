@@ -1,4 +1,7 @@
-//! Files of a machine of two memories and one processor.
+//! A machine of two memories and one processor, on which nothing was made or mapped.
+
+ghost use Rattle.std.specs.Prelude.{◌≡◌, IfOk};
+ghost use Rattle.ex_memory.specs.Tried.{small};
 
 use crate::ExMemory;
 use lego_base::{MemId, NoMemory, Pid, Seq, Shape};
@@ -30,7 +33,9 @@ impl Watch for Unwatched {
     }
 }
 
-fn two_memories(alloc: Global) -> Result<Shape, NoMemory> {
+fn two_memories(alloc: Global) -> Result<Shape, NoMemory>
+    ensures { IfOk result (λ shape. shape ≡ small) }
+{
     let mut frames = Seq::new(alloc);
     frames.push(16)?;
     frames.push(16)?;
@@ -54,20 +59,24 @@ fn two_memories(alloc: Global) -> Result<Shape, NoMemory> {
 }
 
 #[test]
-fn a_file_is_made_written_and_read(rt: HostRuntime) -> Result<(), Fail> {
+fn a_turn_has_no_file_and_no_areas(rt: HostRuntime) -> Result<(), Fail> {
     let alloc = rt.alloc();
     let shape = two_memories(alloc)?;
     let mut memory = ExMemory::boot(alloc, &shape)?;
     let mut watch = Unwatched;
-    let begun = memory.begin_turn(0, Pid(0), &mut watch).is_ok();
-    assert!(rt; begun);
-    if let Ok(Some(file)) = memory.make(b"a", &mut watch) {
-        let written = memory.write(file, 4095, b"xy", &mut watch).is_ok();
-        let sized = matches!(memory.size(file, &mut watch), Ok(4097));
-        assert!(rt; written && sized);
-        if let Ok(bytes) = memory.read(file, 4094, 3, &mut watch) {
-            assert!(rt; bytes.as_slice() == b"\0xy".as_slice());
-        }
-    }
+    assert!(rt; memory.begin_turn(0, Pid(0), &mut watch).is_ok());
+    let file = memory
+        .find(b"a", &mut watch)
+        .expect(&rt, "the file with a name");
+    assert!(rt; file.is_none());
+    let areas = memory
+        .areas(Pid(1), &mut watch)
+        .expect(&rt, "the areas of a process");
+    assert!(rt; areas.runs().is_empty());
+    assert!(rt; memory.end_turn(&mut watch).is_ok());
+    let counts = memory
+        .counts(memory.processor(Pid(1)))
+        .expect(&rt, "the counts of its processor");
+    assert!(rt; counts.hits == 0 && counts.misses == 0);
     Ok(())
 }
